@@ -1,10 +1,27 @@
 //! Names, lists and the outside world, as every other crate of `wcet` sees them.
 #![tactic(auto)]
 
+mod files;
+mod host_files;
+mod host_sink;
+mod lists;
+mod mem_files;
+mod mem_sink;
 mod name;
 mod no_memory;
 mod sequence;
+mod sink;
 
+pub use files::{FetchError, Files, StoreError};
+pub use host_files::HostFiles;
+pub use host_sink::HostSink;
+pub use lists::{Arg, Args, Names, Path, Words};
+pub use mem_files::MemFiles;
+pub use mem_sink::MemSink;
 pub use name::Name;
 pub use no_memory::NoMemory;
 pub use sequence::{Copied, Sequence};
+pub use sink::{PutError, Sink};
+
+#[cfg(test)]
+mod tests;
