@@ -1,3 +1,4 @@
+pub mod Args
 pub mod Faults
 pub mod Files
 pub mod MemFiles
