@@ -1,6 +1,7 @@
 //! Names, lists and the outside world, as every other crate of `wcet` sees them.
 #![tactic(auto)]
 
+mod copied;
 mod files;
 mod host_files;
 mod host_sink;

@@ -1,0 +1,134 @@
+ghost use Rattle.std.specs.Prelude.{◌≡◌, ◌+◌, ◌≤◌, ◌↔◌, false};
+ghost use Rattle.std.specs.Bool.{OnTrue, OnFalse};
+
+/// A kind of unit of work.
+#[derive(Clone, Copy, Debug, PartialEq, Eq)]
+pub enum Work {
+    /// A literal that was decided.
+    Decision,
+    /// A literal that was propagated.
+    Propagation,
+    /// A conflict that was analysed.
+    Conflict,
+    /// A box that was halved.
+    Split,
+    /// A check of the simplex.
+    Check,
+}
+
+/// How many units of each kind were counted, and how many there may be in all.
+#[derive(Clone, Copy, Debug, PartialEq, Eq)]
+pub struct Tally {
+    pub decisions: u64,
+    pub propagations: u64,
+    pub conflicts: u64,
+    pub splits: u64,
+    pub checks: u64,
+    pub budget: u64,
+    pub ghost within_budget: { decisions + propagations + conflicts + splits + checks ≤ budget },
+}
+
+impl Tally {
+    ghost use Rattle.mix_system.specs.Tally.{units, CountsOne};
+
+    /// A tally that has counted nothing.
+    pub fn new(budget: u64) -> Tally
+        ensures nothing { units result ≡ 0 }
+        ensures budget { result.budget ≡ budget }
+    {
+        Tally {
+            decisions: 0,
+            propagations: 0,
+            conflicts: 0,
+            splits: 0,
+            checks: 0,
+            budget,
+        }
+    }
+
+    /// Counts one unit of a kind, or answers `false` and changes nothing, exactly where the units are at the budget.
+    pub fn tick(&mut self, kind: Work) -> bool
+        ensures spent { (result ≡ false) ↔ (units self.old ≡ self.old.budget) }
+        ensures counted { OnTrue result (CountsOne kind self.old self.new) }
+        ensures unchanged { OnFalse result (self.new ≡ self.old) }
+    {
+        if self.units() == self.budget {
+            return false;
+        }
+        match kind {
+            Work::Decision => self.decisions += 1,
+            Work::Propagation => self.propagations += 1,
+            Work::Conflict => self.conflicts += 1,
+            Work::Split => self.splits += 1,
+            Work::Check => self.checks += 1,
+        }
+        true
+    }
+
+    // How many units were counted, of all kinds.
+    fn units(&self) -> u64
+        ensures { result ≡ units self.now }
+    {
+        self.decisions + self.propagations + self.conflicts + self.splits + self.checks
+    }
+}
+
+#[cfg(test)]
+mod tests {
+    use super::*;
+
+    #[test]
+    fn a_tally_counts_up_to_its_budget(rt: HostRuntime) {
+        let mut none = Tally::new(0);
+        assert!(rt; !none.tick(Work::Check));
+        assert_eq!(rt; none, Tally::new(0));
+
+        let mut tally = Tally::new(3);
+        let kinds = [
+            (Work::Decision, true),
+            (Work::Propagation, true),
+            (Work::Split, true),
+            (Work::Conflict, false),
+            (Work::Decision, false),
+        ];
+        for (kind, counted) in kinds {
+            assert_eq!(rt; tally.tick(kind), counted, "{kind:?}");
+        }
+        let counts = [
+            tally.decisions,
+            tally.propagations,
+            tally.conflicts,
+            tally.splits,
+            tally.checks,
+            tally.budget,
+        ];
+        assert_eq!(rt; counts, [1, 1, 0, 1, 0, 3]);
+    }
+
+    #[test]
+    fn each_kind_has_a_count_of_its_own(rt: HostRuntime) {
+        let kinds = [
+            (Work::Decision, [1, 0, 0, 0, 0]),
+            (Work::Propagation, [0, 1, 0, 0, 0]),
+            (Work::Conflict, [0, 0, 1, 0, 0]),
+            (Work::Split, [0, 0, 0, 1, 0]),
+            (Work::Check, [0, 0, 0, 0, 1]),
+        ];
+        for (kind, counts) in kinds {
+            let mut tally = Tally::new(u64::MAX);
+            assert!(rt; tally.tick(kind));
+            let Tally {
+                decisions,
+                propagations,
+                conflicts,
+                splits,
+                checks,
+                ..
+            } = tally;
+            assert_eq!(rt;
+                [decisions, propagations, conflicts, splits, checks],
+                counts
+            );
+        }
+    }
+}
