@@ -1,0 +1,13 @@
+use Rattle.std.proofs.Common.{sym}
+use Rattle.ll_token.proofs.Pieces.{piece_of, StandsFor-push, whole_name, made_name}
+use Rattle.ll_token.proofs.escapes.unescaped.Goals as goal
+
+pub loop-byte-preserved : goal.loop-byte-preserved
+loop-byte-preserved c =
+    let found = piece_of c.loop-byte.rest.now (c.in-Some.byte, c.in-Some.after.now) (sym c.in-Some.ensures) in
+    rw c.in_ok-push.ensures.items (StandsFor-push c.args.inner.now c.loop-byte.bytes.items c.loop-byte.rest.now found.0 c.in-Some.after.now c.in-Some.byte c.loop-byte.invariant found.1 found.2)
+
+pub returns : goal.returns
+returns c =
+    made_name c.args.inner.now c.loop-byte.bytes.items c.deref.result.now c.new.result c.deref.ensures.value
+    (whole_name c.args.inner.now c.loop-byte.bytes.items c.loop-byte.rest.now c.requires c.loop-byte.invariant (sym c.in_default.ensures)) c.new.ensures

@@ -1,0 +1,14 @@
+//! Word tables: the words that each place of an LLVM function's text may hold, found by their bytes.
+//! Nothing here takes memory.
+#![tactic(auto)]
+
+mod word_table;
+mod words;
+
+pub use word_table::WordTable;
+pub use words::{
+    attribute_words, flag_words, header_words, opcode_words, predicate_words, terminator_words,
+};
+
+#[cfg(test)]
+mod tests;

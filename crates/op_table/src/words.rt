@@ -1,0 +1,99 @@
+//! The tables, each a function's value: a table is two words of memory, and its rows are static.
+
+ghost use Rattle.std.specs.Prelude.{◌≡◌, IsTrue};
+ghost use Rattle.op_table.specs.Rows.{rows_of, are_distinct};
+ghost use Rattle.op_table.specs.Words as words;
+
+use crate::WordTable;
+
+/// Does nothing: to call it is to have proved that no two rows share a word.
+fn check_distinct<const N: usize>(_table: &WordTable<N>)
+    requires { IsTrue (are_distinct (rows_of _table.now.words.now)) }
+{}
+
+/// A table of these words, of which no two are the same.
+macro_rules! word_table {
+    ($($word:literal),+ $(,)?) => {{
+        let table = WordTable { words: &[$($word),+] };
+        check_distinct(&table);
+        table
+    }};
+}
+
+/// The words that may stand between `define` and the type of a function's result (LLVM Language
+/// Reference, "Functions"): linkage, preemption, visibility, DLL storage, calling convention, and
+/// attributes of the result.
+pub fn header_words() -> WordTable<22>
+    ensures rows { rows_of result.words.now ≡ words.header }
+    ensures distinct { IsTrue (are_distinct (rows_of result.words.now)) }
+{
+    word_table![
+        b"private",
+        b"internal",
+        b"available_externally",
+        b"linkonce",
+        b"weak",
+        b"linkonce_odr",
+        b"weak_odr",
+        b"external",
+        b"dso_local",
+        b"dso_preemptable",
+        b"default",
+        b"hidden",
+        b"protected",
+        b"dllimport",
+        b"dllexport",
+        b"ccc",
+        b"fastcc",
+        b"coldcc",
+        b"zeroext",
+        b"signext",
+        b"inreg",
+        b"noundef",
+    ]
+}
+
+/// The words that may stand behind a parameter's type ("Parameter Attributes").
+pub fn attribute_words() -> WordTable<4>
+    ensures rows { rows_of result.words.now ≡ words.attribute }
+    ensures distinct { IsTrue (are_distinct (rows_of result.words.now)) }
+{
+    word_table![b"noundef", b"zeroext", b"signext", b"inreg"]
+}
+
+/// The words of the instructions with a result ("Instruction Reference").
+pub fn opcode_words() -> WordTable<12>
+    ensures rows { rows_of result.words.now ≡ words.opcode }
+    ensures distinct { IsTrue (are_distinct (rows_of result.words.now)) }
+{
+    word_table![
+        b"phi", b"add", b"sub", b"mul", b"shl", b"lshr", b"ashr", b"icmp", b"zext", b"sext",
+        b"trunc", b"select",
+    ]
+}
+
+/// The words of the instructions that end a block ("Terminator Instructions").
+pub fn terminator_words() -> WordTable<4>
+    ensures rows { rows_of result.words.now ≡ words.terminator }
+    ensures distinct { IsTrue (are_distinct (rows_of result.words.now)) }
+{
+    word_table![b"ret", b"unreachable", b"br", b"switch"]
+}
+
+/// The flags of arithmetic and shifts ("Binary Operations", "Bitwise Binary Operations").
+pub fn flag_words() -> WordTable<3>
+    ensures rows { rows_of result.words.now ≡ words.flag }
+    ensures distinct { IsTrue (are_distinct (rows_of result.words.now)) }
+{
+    word_table![b"nuw", b"nsw", b"exact"]
+}
+
+/// The conditions of `icmp` ("icmp Instruction").
+pub fn predicate_words() -> WordTable<10>
+    ensures rows { rows_of result.words.now ≡ words.predicate }
+    ensures distinct { IsTrue (are_distinct (rows_of result.words.now)) }
+{
+    word_table![
+        b"eq", b"ne", b"ugt", b"uge", b"ult", b"ule", b"sgt", b"sge", b"slt", b"sle"
+    ]
+}
