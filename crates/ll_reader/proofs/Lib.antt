@@ -1,0 +1,14 @@
+mod CostLaws
+mod CursorLaws
+mod DifferentLaws
+mod KnownLaws
+mod LineLaws
+mod LowerLaws
+mod NameTableLaws
+mod NamesLaws
+pub mod OneReading
+mod PieceLaws
+mod RulesLaws
+mod SpellsLaws
+mod SplitLaws
+mod TextLaws

@@ -1,0 +1,11 @@
+pub mod Code
+pub mod CostReading
+pub mod Cursor
+pub mod NameTable
+pub mod Plain
+pub mod Reading
+pub mod Rules
+pub mod Sound
+pub mod Spells
+pub mod Table
+pub mod Text
