@@ -1,0 +1,6 @@
+pub mod Bytes
+pub mod DecidedLaws
+mod Leaders
+mod Places
+pub mod SaidLaws
+pub mod WorstLaws
