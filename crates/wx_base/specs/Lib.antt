@@ -4,3 +4,4 @@ pub mod Files
 pub mod MemFiles
 pub mod MemSink
 pub mod Sink
+pub mod SureFiles

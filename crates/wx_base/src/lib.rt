@@ -12,6 +12,8 @@ mod name;
 mod no_memory;
 mod sequence;
 mod sink;
+mod sure_files;
+mod sure_sink;
 
 pub use files::{FetchError, Files, StoreError};
 pub use host_files::HostFiles;
@@ -23,6 +25,8 @@ pub use name::Name;
 pub use no_memory::NoMemory;
 pub use sequence::{Copied, Sequence};
 pub use sink::{PutError, Sink};
+pub use sure_files::SureFiles;
+pub use sure_sink::SureSink;
 
 #[cfg(test)]
 mod tests;

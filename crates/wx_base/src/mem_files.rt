@@ -76,7 +76,7 @@ impl MemFiles {
 }
 
 // The bytes of the first pair with this name.
-fn find<'a>(files: &'a [(Name, Vec<u8>)], name: &Name) -> Option<&'a Vec<u8>>
+pub(crate) fn find<'a>(files: &'a [(Name, Vec<u8>)], name: &Name) -> Option<&'a Vec<u8>>
     ensures { option_map (λ bytes. bytes.now.items) result ≡ first_with (pairs_of files.now) name.now }
 {
     for file in files {

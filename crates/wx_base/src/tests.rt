@@ -1,6 +1,6 @@
 use crate::{
     Arg, Args, Copied, FetchError, Files, HostFiles, HostSink, MemFiles, MemSink, Name, PutError,
-    Sequence, Sink, StoreError, Words,
+    Sequence, Sink, StoreError, SureFiles, SureSink, Words,
 };
 use std::alloc::Global;
 use std::fs;
@@ -126,6 +126,42 @@ fn the_host_sink_writes(rt: HostRuntime) -> Result<(), Fail> {
     let mut sink = HostSink::new(&rt);
     sink.put(b"written\n")?;
     sink.put(b"")?;
+    assert_eq!(rt; sink.faults(), 0);
+    Ok(())
+}
+
+#[test]
+fn sure_files_have_contents_for_each_name(rt: HostRuntime) -> Result<(), Fail> {
+    let alloc = rt.alloc();
+    let mut pairs = Vec::new(alloc);
+    pairs.push((name(alloc, "a")?, b"first".to_vec(alloc)?))?;
+    let mut files = SureFiles::new(alloc, pairs);
+    let a = name(alloc, "a")?;
+    assert_eq!(rt; files.fetch(alloc, &a, 5)?.as_slice(), b"first".as_slice());
+    assert!(rt; matches!(files.fetch(alloc, &a, 4), Err(FetchError::TooLong)));
+    assert_eq!(rt; files.fetch(alloc, &name(alloc, "b")?, 0)?.len(), 0);
+    assert_eq!(rt; files.asked().len(), 3);
+    Ok(())
+}
+
+#[test]
+fn sure_files_keep_what_is_stored(rt: HostRuntime) -> Result<(), Fail> {
+    let alloc = rt.alloc();
+    let mut files = SureFiles::new(alloc, Vec::new(alloc));
+    let b = name(alloc, "b")?;
+    files.store(alloc, &b, b"new")?;
+    assert_eq!(rt; files.fetch(alloc, &b, 3)?.as_slice(), b"new".as_slice());
+    assert_eq!(rt; files.stored().len(), 1);
+    assert_eq!(rt; files.faults(), 0);
+    Ok(())
+}
+
+#[test]
+fn the_sure_sink_takes_all(rt: HostRuntime) -> Result<(), Fail> {
+    let mut sink = SureSink::new(rt.alloc());
+    sink.put(b"one ")?;
+    sink.put(b"two")?;
+    assert_eq!(rt; sink.bytes(), b"one two".as_slice());
     assert_eq!(rt; sink.faults(), 0);
     Ok(())
 }
