@@ -33,8 +33,18 @@ fn write<S: Sink>(alloc: Global, answer: &Answer, out: &mut S) -> Written
 
 /// Does what the words of a command line ask for, and writes the answer's text to `out`.
 ///
-/// The files are asked for in the order FILE, COSTS, and nothing is stored. FILE has at most 4,194,304 bytes,
-/// and COSTS at most 1,048,576.
+/// For `analyse FUNCTION FILE COSTS` that is the worst case of the function FUNCTION, whose text is FILE and
+/// whose blocks cost what COSTS says. The files are asked for in this order, and nothing is stored. The first
+/// of these is answered:
+///
+/// - `Usage`, where the words are no such command;
+/// - over FILE, and then over COSTS: `FetchFault`, where the outside failed; `TooLong`, where there are more
+///   than 4,194,304 or 1,048,576 bytes; `NotYet`, where they are no function of the first text with this name,
+///   or no table of its costs;
+/// - `TooWide`, where the parameters have more than 16 bits in all;
+/// - `Exact`, with the first of the arguments that cost the most.
+///
+/// `NoMemory` comes in place of any of them where memory is wanting.
 pub fn run<F: Files, S: Sink>(alloc: Global, words: &Words, files: &mut F, out: &mut S) -> Outcome
     // What the answer says, of the words and of what the files told.
     ensures exact { let o = between (F.contents files.old) (F.asked files.old) (F.asked files.new) (F.fault_count files.old) (F.fault_count files.new) (F.taken_count files.old) (F.taken_count files.new) in

@@ -39,11 +39,12 @@ result i8 77
 method trial
 ";
 
-// What a command wrote, and its status.
+// What a command wrote, its status, and how many files it stored.
 #[derive(Drop)]
 struct Seen {
     text: Vec<u8>,
     status: u8,
+    stored: usize,
 }
 
 fn name(alloc: Global, text: &str) -> Result<Name, Fail> {
@@ -75,6 +76,7 @@ fn analysed(
     Ok(Seen {
         text: out.bytes().to_vec(alloc)?,
         status: outcome.status(),
+        stored: files.stored().len(),
     })
 }
 
@@ -216,6 +218,7 @@ fn words_and_faults_are_answered(rt: HostRuntime) -> Result<(), Fail> {
     let second = analysed(alloc, &WORDS, (EQUALITY, COSTS), &[1], &[])?;
     assert_eq!(rt; second.text.as_slice(), b"fault read costs\n".as_slice());
     assert_eq!(rt; second.status, 5);
+    assert_eq!(rt; second.stored, 0);
     let broken = analysed(alloc, &WORDS, (EQUALITY, COSTS), &[], &[(0, 3)])?;
     assert_eq!(rt; broken.text.as_slice(), b"exa".as_slice());
     assert_eq!(rt; broken.status, 5);
