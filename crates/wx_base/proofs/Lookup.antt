@@ -1,11 +1,11 @@
 -- What a look-up by name finds from a place of the list on.
-use Rattle.std.proofs.Common.{◌≡◌, ◌≢◌, ◌<◌, ◌≤◌, ◌+◌, ℕ, List, Vec, length, drop, get_or, Some, None, refl, sym, ◌∙◌, ap, subst, arith, true, false, cond}
+use Rattle.std.proofs.Common.{◌≡◌, ◌≢◌, ◌<◌, ◌≤◌, ◌+◌, ℕ, List, Vec, length, drop, get_or, Some, None, sym, ◌∙◌, ap, cond}
 use Rattle.std.specs.Str.{bytes_eq}
 use Rattle.std.proofs.lemmas.List.{drop_more, drop_all}
 use Rattle.std.proofs.lemmas.Slice.Eq.{bytes_eq-Decides}
 use Rattle.std.proofs.lemmas.Bool.{false_from_ne_true}
 use Rattle.std.specs.declared.alloc.Global.{Global}
-use Rattle.wx_base.specs.MemFiles.{first_with, pairs_of}
+use Rattle.wx_base.specs.Shelf.{first_with, pairs_of}
 
 module _ (files : List (List ℕ × Vec ℕ Global)) (name : List ℕ) (i : ℕ) (file : List ℕ × Vec ℕ Global) (within : i < length files) (is : file ≡ get_or files i file) where
   here : first_with (pairs_of (drop i files)) name ≡ cond (bytes_eq file.0 name) (Some file.1.items) (first_with (pairs_of (drop (i + 1) files)) name)

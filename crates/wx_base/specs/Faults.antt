@@ -1,5 +1,5 @@
 -- How a fault is told from an answer that a body makes up: by a count that only the outside raises.
-use Rattle.std.specs.Prelude.{◌≡◌, ℕ, ◌+◌, ◌-◌, ◌^◌, ◌≤◌, min, Result, IsErrOf}
+use Rattle.std.specs.Prelude.{ℕ, ◌+◌, ◌-◌, ◌^◌, ◌≤◌, min, Result, IsErrOf}
 
 -- the count is greater after a call than before it, or stands at the last value of its type
 abbrev pub Rose : ℕ → ℕ → Type 0

@@ -3,5 +3,7 @@ pub mod Faults
 pub mod Files
 pub mod MemFiles
 pub mod MemSink
+pub mod Reserved
+pub mod Shelf
 pub mod Sink
-pub mod SureFiles
+pub mod SureSink

@@ -1,6 +1,7 @@
 -- A sink in memory, as contracts see it.
-use Rattle.std.specs.Prelude.{◌≡◌, ℕ, ◌+◌, ◌-◌, ◌^◌, ◌==◌, min, List, [], ◌∷◌, ◌++◌, length, take, Option, Some, None, if◌then◌else◌}
+use Rattle.std.specs.Prelude.{ℕ, ◌==◌, List, [], ◌∷◌, ◌++◌, take, Option, Some, None, if◌then◌else◌}
 use Rattle.wx_base.specs.MemFiles.{next}
+use Rattle.wx_base.specs.Sink.{SinkView}
 
 -- A sink in memory: the numbers of the puts that fail with the count of bytes that each still takes, the
 -- number of the next put, what was written, and how often a put failed.
@@ -9,6 +10,9 @@ pub record Page : Type 0 where
   pub puts : ℕ
   pub bytes : List ℕ
   pub faults : ℕ
+
+abbrev pub page_view : Page → SinkView
+page_view page = record { written = Some page.bytes; faults = page.faults }
 
 -- how many bytes the put of this number takes before it fails, if it fails: the first pair counts
 abbrev pub taken_by : List (ℕ × ℕ) → ℕ → Option ℕ

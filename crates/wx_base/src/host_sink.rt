@@ -16,7 +16,7 @@ pub struct HostSink<'a, R> {
 impl<'a, R: Print> HostSink<'a, R> {
     /// The standard output of a runtime.
     pub fn new(rt: &'a R) -> HostSink<'a, R>
-        ensures faults { ⟦<HostSink<'a, R> as Sink>⟧.fault_count result ≡ 0 }
+        ensures faults { (⟦<HostSink<'a, R> as Sink>⟧.view result).faults ≡ 0 }
     {
         HostSink { rt, faults: 0 }
     }
@@ -40,9 +40,7 @@ fn write_all<W: Write>(writer: &mut W, bytes: &[u8]) -> Result<(), PutError>
 }
 
 impl<'a, R: Print> Sink for HostSink<'a, R> {
-    ghost written = { λ _. None };
-
-    ghost fault_count = { λ s. s.faults };
+    ghost view = { λ s. record { written = None; faults = s.faults } };
 
     fn put(&mut self, bytes: &[u8]) -> Result<(), PutError> {
         let result = write_all(&mut io::writer(self.rt), bytes);

@@ -1,4 +1,4 @@
-ghost use Rattle.std.specs.Prelude.{◌≡◌};
+ghost use Rattle.std.specs.Prelude.{◌<◌, ◌^◌};
 
 use crate::{Copied, Name, NoMemory, Sequence};
 use std::alloc::Global;
@@ -12,11 +12,12 @@ pub type Names = Sequence<Name>;
 /// The labels of the basic blocks that a run visits, in order.
 pub type Path = Sequence<Name>;
 
-/// One argument: an integer of `width` bits, 1 to 32, whose value is below 2^width.
+/// One argument: an integer of `width` bits, whose value is below 2^width.
 #[derive(Clone, Copy, Debug, PartialEq, Eq)]
 pub struct Arg {
     pub width: u32,
     pub value: u32,
+    ghost fits: { value < 2 ^ width },
 }
 
 /// The arguments of a function, in the order of its parameters.

@@ -1,7 +1,7 @@
 ghost use Rattle.std.specs.Prelude.{◌≡◌, ◌⊎◌, [], ◌∷◌, ◌++◌, ◌<◌, ◌≢◌, length, take, IsOk, IsErr, IfOk, OnOk, OnErr, None, Some, IsSome, IsNone};
 ghost use Rattle.wx_base.specs.Faults.{HasCause};
 ghost use Rattle.wx_base.specs.Sink.{Writes};
-ghost use Rattle.wx_base.specs.MemSink.{taken_by, after_put};
+ghost use Rattle.wx_base.specs.MemSink.{page_view, taken_by, after_put};
 
 use crate::{NoMemory, PutError, Sequence, Sink};
 use std::alloc::Global;
@@ -67,21 +67,21 @@ fn find(failing: &[(u64, usize)], put: u64) -> Option<usize>
 }
 
 impl Sink for MemSink {
-    ghost written = { λ s. Some s.bytes };
-
-    ghost fault_count = { λ s. s.faults };
+    ghost view = { page_view };
 
     fn put(&mut self, bytes: &[u8]) -> Result<(), PutError>
-        ensures writes { Writes (Some self.old.bytes) (Some self.new.bytes) bytes.now result }
+        ensures writes { Writes (page_view self.old) (page_view self.new) bytes.now result }
         ensures cause { HasCause PutError.Failed self.old.faults self.new.faults result }
-        ensures nothing { bytes.now ≡ [] → IsOk result × (self.new.faults ≡ self.old.faults) }
+        ensures nothing { bytes.now ≡ [] → IsOk result × (page_view self.new ≡ page_view self.old) }
 
         // Which puts fail, and what a put leaves.
         ensures empty { bytes.now ≡ [] → self.new ≡ self.old }
         ensures no_memory { result ≡ Err PutError.NoMemory → self.new ≡ self.old }
         ensures ok { 0 < length bytes.now → OnOk result (
-            (taken_by self.old.failing self.old.puts ≡ None) × (self.new ≡ after_put self.old bytes.now None)) }
-        ensures failed { result ≡ Err PutError.Failed → IsSome (taken_by self.old.failing self.old.puts)
+            (taken_by self.old.failing self.old.puts ≡ None)
+            × (self.new ≡ after_put self.old bytes.now None)) }
+        ensures failed { result ≡ Err PutError.Failed
+            → IsSome (taken_by self.old.failing self.old.puts)
             × (self.new ≡ after_put self.old bytes.now (taken_by self.old.failing self.old.puts)) }
     {
         if bytes.is_empty() {

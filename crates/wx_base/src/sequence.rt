@@ -39,7 +39,15 @@ impl<T> Sequence<T> {
         }
     }
 
-    /// The list of a vector's items.
+    /// The empty list, with room for that many items.
+    pub fn with_capacity(alloc: Global, capacity: usize) -> Result<Sequence<T>, NoMemory>
+        ensures { IfOk result (λ list. list ≡ []) }
+    {
+        let items = Vec::with_capacity(alloc, capacity)?;
+        Ok(Sequence { items })
+    }
+
+    /// The list of a vector's items. It takes no memory.
     pub fn from_vec(items: Vec<T>) -> Sequence<T>
         ensures { result ≡ items.items }
     {

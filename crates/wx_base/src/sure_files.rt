@@ -1,10 +1,9 @@
-ghost use Rattle.std.specs.Prelude.{◌≡◌, ◌≢◌, ◌≤◌, ◌<◌, [], length, IfOk, OnOk, OnErr, Some};
+ghost use Rattle.std.specs.Prelude.{◌≡◌, ◌≢◌, ◌≤◌, ◌<◌, length, IsTrue, IsSome, ◌↔◌, IfOk, OnOk, OnErr};
+ghost use Rattle.std.specs.Option.{option_map};
 ghost use Rattle.wx_base.specs.Faults.{HasCause};
-ghost use Rattle.wx_base.specs.Files.{AreTold, AreLonger, TookMore, with_end, FetchAsks, StoreAsks, ContentsWith};
-ghost use Rattle.wx_base.specs.MemFiles.{pairs_of};
-ghost use Rattle.wx_base.specs.SureFiles.{contents_or_empty, sure_contents, sure_fetched, sure_stored};
+ghost use Rattle.wx_base.specs.Files.{AreTold, IsTooLong, LeavesFetch, ContentsWith, LeavesStore};
+ghost use Rattle.wx_base.specs.Shelf.{pairs_of, first_with, fresh, contents_or_empty, shelf_view, with_asked, fetched, stored};
 
-use crate::mem_files::find;
 use crate::{Copied, FetchError, Files, Name, NoMemory, Sequence, StoreError};
 use std::alloc::Global;
 use std::marker::Model;
@@ -20,10 +19,9 @@ pub struct SureFiles {
 }
 
 impl Model for SureFiles {
-    ghost use Rattle.wx_base.specs.MemFiles.{pairs_of};
-    ghost use Rattle.wx_base.specs.SureFiles.{Sure};
+    ghost use Rattle.wx_base.specs.Shelf.{Shelf, pairs_of};
 
-    ghost Value = { Sure };
+    ghost Value = { Shelf };
 
     ghost view = { λ m. record {
       files = pairs_of m.files.items;
@@ -35,7 +33,7 @@ impl Model for SureFiles {
 impl SureFiles {
     /// Files with these contents; of two pairs with one name the first counts.
     pub fn new(alloc: Global, files: Vec<(Name, Vec<u8>)>) -> SureFiles
-        ensures { result ≡ record { files = pairs_of files.items; asked = []; kept = [] } }
+        ensures { result ≡ fresh (pairs_of files.items) }
     {
         SureFiles {
             files,
@@ -57,6 +55,34 @@ impl SureFiles {
     {
         self.asked.items()
     }
+
+    // Whether a pair has this name.
+    pub(crate) fn has(&self, name: &Name) -> bool
+        ensures { IsTrue result ↔ IsSome (first_with self.now.files name.now) }
+    {
+        find(&self.files, name).is_some()
+    }
+
+    // Notes that a name was asked for.
+    pub(crate) fn ask(&mut self, alloc: Global, name: &Name) -> Result<(), NoMemory>
+        ensures ok { OnOk result (self.new ≡ with_asked self.old name.now) }
+        ensures err { OnErr result (self.new ≡ self.old) }
+    {
+        self.asked.push(name.copy(alloc)?)
+    }
+}
+
+// The bytes of the first pair with this name.
+fn find<'a>(files: &'a [(Name, Vec<u8>)], name: &Name) -> Option<&'a Vec<u8>>
+    ensures { option_map (λ bytes. bytes.now.items) result
+        ≡ first_with (pairs_of files.now) name.now }
+{
+    for file in files {
+        if file.0.same(name) {
+            return Some(&file.1);
+        }
+    }
+    None
 }
 
 // What a fetch answers, before the name is noted.
@@ -66,9 +92,11 @@ fn answer(
     name: &Name,
     limit: u64,
 ) -> Result<Vec<u8>, FetchError>
-    ensures ok { IfOk result (λ bytes. bytes.items ≡ contents_or_empty (pairs_of files.now) name.now) }
+    ensures ok { IfOk result (λ bytes.
+        bytes.items ≡ contents_or_empty (pairs_of files.now) name.now) }
     ensures within { IfOk result (λ bytes. length bytes.items ≤ limit) }
-    ensures longer { result ≡ Err FetchError.TooLong → limit < length (contents_or_empty (pairs_of files.now) name.now) }
+    ensures longer { result ≡ Err FetchError.TooLong
+        → limit < length (contents_or_empty (pairs_of files.now) name.now) }
     ensures never { result ≢ Err FetchError.Failed }
 {
     match find(files, name) {
@@ -83,49 +111,41 @@ fn answer(
 }
 
 impl Files for SureFiles {
-    ghost contents = { λ m. Some (sure_contents m.files) };
-
-    ghost asked = { λ m. Some m.asked };
-
-    ghost stored = { λ m. Some m.kept };
-
-    ghost fault_count = { λ _. 0 };
-
-    ghost taken_count = { λ _. 0 };
+    ghost view = { shelf_view };
 
     fn fetch(&mut self, alloc: Global, name: &Name, limit: u64) -> Result<Vec<u8>, FetchError>
         ensures within { IfOk result (λ bytes. length bytes.items ≤ limit) }
-        ensures told { IfOk result (λ bytes. AreTold (Some (sure_contents self.old.files)) name.now bytes.items) }
-        ensures longer { result ≡ Err FetchError.TooLong → AreLonger (Some (sure_contents self.old.files)) name.now limit }
-        ensures taken { result ≡ Err FetchError.TooLong → TookMore (Some (sure_contents self.old.files)) limit 0 0 }
+        ensures told { IfOk result (λ bytes.
+            AreTold (shelf_view self.old).contents name.now bytes.items) }
+        ensures longer { result ≡ Err FetchError.TooLong
+            → IsTooLong (shelf_view self.old) (shelf_view self.new) name.now limit }
         ensures cause { HasCause FetchError.Failed 0 0 result }
-        ensures asks { FetchAsks (Some self.old.asked) (Some self.new.asked) name.now result }
-        ensures contents { Some (sure_contents self.new.files) ≡ Some (sure_contents self.old.files) }
-        ensures stored { Some self.new.kept ≡ Some self.old.kept }
+        ensures taken { (shelf_view self.old).taken ≤ (shelf_view self.new).taken }
+        ensures leaves { LeavesFetch (shelf_view self.old) (shelf_view self.new) name.now result }
 
         // No fetch fails, and what one leaves.
         ensures never { result ≢ Err FetchError.Failed }
-        ensures after { self.new ≡ sure_fetched self.old name.now result }
+        ensures after { self.new ≡ fetched self.old name.now result }
     {
         let answer = answer(alloc, &self.files, name, limit);
         if let Err(FetchError::NoMemory) = answer {
             return answer;
         }
-        self.asked.push(name.copy(alloc)?)?;
+        self.ask(alloc, name)?;
         answer
     }
 
     fn store(&mut self, alloc: Global, name: &Name, bytes: &[u8]) -> Result<(), StoreError>
-        ensures stored { OnOk result (Some self.new.kept ≡ with_end (Some self.old.kept) (name.now, bytes.now)) }
-        ensures contents { OnOk result (ContentsWith (Some (sure_contents self.old.files)) (Some (sure_contents self.new.files)) name.now bytes.now) }
-        ensures not_stored { OnErr result (Some self.new.kept ≡ Some self.old.kept) }
-        ensures kept { OnErr result (Some (sure_contents self.new.files) ≡ Some (sure_contents self.old.files)) }
         ensures cause { HasCause StoreError.Failed 0 0 result }
-        ensures asks { StoreAsks (Some self.old.asked) (Some self.new.asked) name.now result }
+        ensures contents { OnOk result
+            (ContentsWith (shelf_view self.old).contents (shelf_view self.new).contents
+            name.now bytes.now) }
+        ensures leaves { LeavesStore (shelf_view self.old) (shelf_view self.new)
+            name.now bytes.now result }
 
         // No store fails, and what one leaves.
         ensures never { result ≢ Err StoreError.Failed }
-        ensures after { self.new ≡ sure_stored self.old name.now bytes.now result }
+        ensures after { self.new ≡ stored self.old name.now bytes.now result }
     {
         let asked = name.copy(alloc)?;
         let kept = (

@@ -1,6 +1,7 @@
-ghost use Rattle.std.specs.Prelude.{◌≡◌, ◌≢◌, [], ℕ, ◌++◌, IsOk, OnOk, OnErr, Some};
+ghost use Rattle.std.specs.Prelude.{◌≡◌, ◌≢◌, [], ◌++◌, IsOk, OnOk, OnErr};
 ghost use Rattle.wx_base.specs.Faults.{HasCause};
 ghost use Rattle.wx_base.specs.Sink.{Writes};
+ghost use Rattle.wx_base.specs.SureSink.{sure_sink_view};
 
 use crate::{PutError, Sink};
 use std::alloc::Global;
@@ -39,14 +40,14 @@ impl SureSink {
 }
 
 impl Sink for SureSink {
-    ghost written = { λ s. Some s };
-
-    ghost fault_count = { λ _. 0 };
+    ghost view = { sure_sink_view };
 
     fn put(&mut self, bytes: &[u8]) -> Result<(), PutError>
-        ensures writes { Writes (Some self.old) (Some self.new) bytes.now result }
+        ensures writes { Writes (sure_sink_view self.old) (sure_sink_view self.new)
+            bytes.now result }
         ensures cause { HasCause PutError.Failed 0 0 result }
-        ensures nothing { bytes.now ≡ [] → IsOk result × (◌≡◌ {A = ℕ} 0 0) }
+        ensures nothing { bytes.now ≡ []
+            → IsOk result × (sure_sink_view self.new ≡ sure_sink_view self.old) }
 
         // No put fails, and what one leaves.
         ensures never { result ≢ Err PutError.Failed }

@@ -1,6 +1,6 @@
 use Rattle.std.proofs.Common.{◌≡◌, drop}
-use Rattle.wx_base.specs.MemFiles.{first_with, pairs_of}
-use Rattle.wx_base.proofs.mem_files.find.Given as goal
+use Rattle.wx_base.specs.Shelf.{first_with, pairs_of}
+use Rattle.wx_base.proofs.sure_files.find.Given as goal
 
 -- what is left has the pair
 abbrev pub invariant-loop-file : goal.invariant-loop-file
