@@ -1,3 +1,8 @@
+pub mod Anys
+pub mod BoundLaws
+pub mod FarkasLaws
+pub mod FollowLaws
+pub mod Products
 pub mod Steps
 pub mod Sums
 pub mod Sizes

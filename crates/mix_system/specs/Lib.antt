@@ -1,5 +1,8 @@
+pub mod Bounds
 pub mod Calm
+pub mod FarkasSum
 pub mod Fits
+pub mod Follows
 pub mod Lit
 pub mod Row
 pub mod Stored

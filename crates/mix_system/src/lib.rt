@@ -6,12 +6,17 @@
 
 mod farkas;
 mod holds;
+mod laws;
 mod literal;
 mod row;
 mod system;
 mod tally;
 
 pub use farkas::{Farkas, FarkasPart, FarkasParts};
+pub use laws::{
+    a_refuted_box_has_no_point, one_of_a_literal_and_its_negation, what_a_box_says_is_true,
+    what_follows_is_true,
+};
 pub use literal::{Lit, Lits, Side, Term, Terms};
 pub use row::Part;
 pub use system::System;

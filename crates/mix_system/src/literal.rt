@@ -1,11 +1,13 @@
 ghost use Rattle.std.specs.Prelude.{◌≡◌, IfOk};
+ghost use Rattle.mix_system.specs.Lit.{negation};
+ghost use Rattle.mix_system.specs.System.{IsInner};
 
 use std::alloc::Global;
 use std::default::MadeWith;
 use wx_base::{Copied, NoMemory, Sequence};
 
-/// What a literal bounds, by its number in the system.
-#[derive(Clone, Copy, Debug, PartialEq, Eq)]
+/// What a literal bounds, by its number in the system. In order, variables stand before rows, and each by number.
+#[derive(Clone, Copy, Debug, PartialEq, Eq, PartialOrd, Ord, Hash)]
 pub enum Term {
     /// The variable of that number.
     Var(u32),
@@ -14,7 +16,7 @@ pub enum Term {
 }
 
 /// The side on which a bound stands.
-#[derive(Clone, Copy, Debug, PartialEq, Eq)]
+#[derive(Clone, Copy, Debug, PartialEq, Eq, PartialOrd, Ord, Hash)]
 pub enum Side {
     /// At most the bound.
     Le,
@@ -22,8 +24,8 @@ pub enum Side {
     Ge,
 }
 
-/// A bound on a term from one side, `term <= bound` or `term >= bound`.
-#[derive(Clone, Copy, Debug, PartialEq, Eq)]
+/// A bound on a term from one side, `term <= bound` or `term >= bound`. In order, by term, then by side, then by bound.
+#[derive(Clone, Copy, Debug, PartialEq, Eq, PartialOrd, Ord, Hash)]
 pub struct Lit {
     pub term: Term,
     pub side: Side,
@@ -35,6 +37,25 @@ pub type Lits = Sequence<Lit>;
 
 /// A list of terms.
 pub type Terms = Sequence<Term>;
+
+impl Lit {
+    /// The literal that says the opposite: `t >= c + 1` for `t <= c`, and `t <= c - 1` for `t >= c`.
+    /// The bound is neither the least nor the greatest `i128`.
+    pub fn negation(self) -> Lit
+        requires { IsInner self.bound }
+        ensures { result ≡ negation self }
+    {
+        let (side, bound) = match self.side {
+            Side::Le => (Side::Ge, self.bound + 1),
+            Side::Ge => (Side::Le, self.bound - 1),
+        };
+        Lit {
+            term: self.term,
+            side,
+            bound,
+        }
+    }
+}
 
 impl Copied for Term {
     fn copy(&self, _: Global) -> Result<Term, NoMemory> {
@@ -56,5 +77,31 @@ impl MadeWith<Global> for Lit {
             side: Side::Le,
             bound: 0,
         }
+    }
+}
+
+#[cfg(test)]
+mod tests {
+    use super::*;
+
+    #[test]
+    fn literals_have_negations_and_an_order(rt: HostRuntime) {
+        let at_most = Lit {
+            term: Term::Row(0),
+            side: Side::Le,
+            bound: 4,
+        };
+        let above = Lit {
+            term: Term::Row(0),
+            side: Side::Ge,
+            bound: 5,
+        };
+        let of_var = Lit {
+            term: Term::Var(9),
+            side: Side::Ge,
+            bound: 7,
+        };
+        assert_eq!(rt; [at_most.negation(), above.negation()], [above, at_most]);
+        assert!(rt; of_var < at_most && at_most < above && Term::Var(1) < Term::Var(2));
     }
 }
