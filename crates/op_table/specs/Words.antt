@@ -16,12 +16,14 @@ header =
 abbrev pub attribute : List (List ℕ)
 attribute = codes "noundef" ∷ codes "zeroext" ∷ codes "signext" ∷ codes "inreg" ∷ []
 
--- "Instruction Reference": what may stand behind `%r =`
+-- "Instruction Reference": what may stand behind `%r =`, but for calls
 abbrev pub opcode : List (List ℕ)
 opcode =
     codes "phi"
     ∷ codes "add" ∷ codes "sub" ∷ codes "mul" ∷ codes "shl"
     ∷ codes "lshr" ∷ codes "ashr"
+    ∷ codes "and" ∷ codes "or" ∷ codes "xor"
+    ∷ codes "udiv" ∷ codes "sdiv" ∷ codes "urem" ∷ codes "srem"
     ∷ codes "icmp"
     ∷ codes "zext" ∷ codes "sext" ∷ codes "trunc"
     ∷ codes "select"
@@ -31,9 +33,10 @@ opcode =
 abbrev pub terminator : List (List ℕ)
 terminator = codes "ret" ∷ codes "unreachable" ∷ codes "br" ∷ codes "switch" ∷ []
 
--- "Binary Operations", "Bitwise Binary Operations": what may stand between an opcode and its type
+-- "Binary Operations", "Bitwise Binary Operations", "Conversion Operations", "icmp Instruction": what may
+-- stand between an opcode and what follows it
 abbrev pub flag : List (List ℕ)
-flag = codes "nuw" ∷ codes "nsw" ∷ codes "exact" ∷ []
+flag = codes "nuw" ∷ codes "nsw" ∷ codes "exact" ∷ codes "nneg" ∷ codes "samesign" ∷ codes "disjoint" ∷ []
 
 -- "icmp Instruction": the conditions
 abbrev pub predicate : List (List ℕ)
@@ -42,3 +45,15 @@ predicate =
     ∷ codes "ugt" ∷ codes "uge" ∷ codes "ult" ∷ codes "ule"
     ∷ codes "sgt" ∷ codes "sge" ∷ codes "slt" ∷ codes "sle"
     ∷ []
+
+-- "call Instruction": what begins a call
+abbrev pub call : List (List ℕ)
+call = codes "call" ∷ codes "tail" ∷ codes "notail" ∷ []
+
+-- "Standard C/C++ Library Intrinsics": the called names with a result, without their last `.` and type
+abbrev pub valued_call : List (List ℕ)
+valued_call = codes "llvm.smin" ∷ codes "llvm.smax" ∷ codes "llvm.umin" ∷ codes "llvm.umax" ∷ codes "llvm.abs" ∷ []
+
+-- "llvm.assume Intrinsic": the called name without a result
+abbrev pub void_call : List (List ℕ)
+void_call = codes "llvm.assume" ∷ []

@@ -7,7 +7,8 @@ mod words;
 
 pub use word_table::WordTable;
 pub use words::{
-    attribute_words, flag_words, header_words, opcode_words, predicate_words, terminator_words,
+    attribute_words, call_words, flag_words, header_words, opcode_words, predicate_words,
+    terminator_words, valued_call_names, void_call_names,
 };
 
 #[cfg(test)]

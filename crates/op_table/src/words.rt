@@ -61,14 +61,14 @@ pub fn attribute_words() -> WordTable<4>
     word_table![b"noundef", b"zeroext", b"signext", b"inreg"]
 }
 
-/// The words of the instructions with a result ("Instruction Reference").
-pub fn opcode_words() -> WordTable<12>
+/// The words of the instructions with a result, but for calls ("Instruction Reference").
+pub fn opcode_words() -> WordTable<19>
     ensures rows { rows_of result.words.now ≡ words.opcode }
     ensures distinct { IsTrue (are_distinct (rows_of result.words.now)) }
 {
     word_table![
-        b"phi", b"add", b"sub", b"mul", b"shl", b"lshr", b"ashr", b"icmp", b"zext", b"sext",
-        b"trunc", b"select",
+        b"phi", b"add", b"sub", b"mul", b"shl", b"lshr", b"ashr", b"and", b"or", b"xor", b"udiv",
+        b"sdiv", b"urem", b"srem", b"icmp", b"zext", b"sext", b"trunc", b"select",
     ]
 }
 
@@ -80,12 +80,13 @@ pub fn terminator_words() -> WordTable<4>
     word_table![b"ret", b"unreachable", b"br", b"switch"]
 }
 
-/// The flags of arithmetic and shifts ("Binary Operations", "Bitwise Binary Operations").
-pub fn flag_words() -> WordTable<3>
+/// The flags of instructions ("Binary Operations", "Bitwise Binary Operations", "Conversion
+/// Operations", "icmp Instruction").
+pub fn flag_words() -> WordTable<6>
     ensures rows { rows_of result.words.now ≡ words.flag }
     ensures distinct { IsTrue (are_distinct (rows_of result.words.now)) }
 {
-    word_table![b"nuw", b"nsw", b"exact"]
+    word_table![b"nuw", b"nsw", b"exact", b"nneg", b"samesign", b"disjoint"]
 }
 
 /// The conditions of `icmp` ("icmp Instruction").
@@ -96,4 +97,35 @@ pub fn predicate_words() -> WordTable<10>
     word_table![
         b"eq", b"ne", b"ugt", b"uge", b"ult", b"ule", b"sgt", b"sge", b"slt", b"sle"
     ]
+}
+
+/// The words that begin a call ("call Instruction"), but for `musttail`.
+pub fn call_words() -> WordTable<3>
+    ensures rows { rows_of result.words.now ≡ words.call }
+    ensures distinct { IsTrue (are_distinct (rows_of result.words.now)) }
+{
+    word_table![b"call", b"tail", b"notail"]
+}
+
+/// The intrinsic functions with a result, each without its last `.` and type ("Standard C/C++ Library
+/// Intrinsics").
+pub fn valued_call_names() -> WordTable<5>
+    ensures rows { rows_of result.words.now ≡ words.valued_call }
+    ensures distinct { IsTrue (are_distinct (rows_of result.words.now)) }
+{
+    word_table![
+        b"llvm.smin",
+        b"llvm.smax",
+        b"llvm.umin",
+        b"llvm.umax",
+        b"llvm.abs"
+    ]
+}
+
+/// The intrinsic functions without a result ("llvm.assume Intrinsic").
+pub fn void_call_names() -> WordTable<1>
+    ensures rows { rows_of result.words.now ≡ words.void_call }
+    ensures distinct { IsTrue (are_distinct (rows_of result.words.now)) }
+{
+    word_table![b"llvm.assume"]
 }
