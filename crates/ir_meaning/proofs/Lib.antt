@@ -1,0 +1,4 @@
+pub mod BitLaws
+pub mod DivideLaws
+pub mod ModuloLaws
+pub mod WrapLaws

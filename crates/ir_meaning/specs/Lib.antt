@@ -1,0 +1,4 @@
+pub mod Compare
+pub mod Rows
+pub mod Value
+pub mod Whole
