@@ -1,2 +1,2 @@
 pub mod Floor
-pub mod Gcd
+pub mod Divisors

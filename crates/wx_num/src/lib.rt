@@ -4,6 +4,7 @@
 #![tactic(auto)]
 
 mod excess;
+mod gcd;
 mod number;
 
 pub use excess::{Excess, NumOp};

@@ -1,7 +1,7 @@
 ghost use Rattle.std.specs.Prelude.{◌≡◌, ◌↔◌, ℕ, pos, ◌+ℤ◌, ◌-ℤ◌, ◌*ℤ◌, ◌<ℤ◌, ◌≤ℤ◌, IsOk, IfOk, IfErr, FitsSigned};
 ghost use Rattle.std.specs.Int.{IsGcd, w128};
 
-use crate::{Excess, NumOp};
+use crate::{Excess, NumOp, gcd};
 
 /// Arithmetic on whole numbers of 128 bits, none of which wraps or stops.
 pub struct Num;
@@ -39,6 +39,9 @@ impl Num {
         ensures within { IsOk result ↔ FitsSigned w128 (x *ℤ y) }
         ensures excess { IfErr result (λ excess. excess ≡ record { op = NumOp.Times; x = x; y = y }) }
     {
+        if let (Ok(x), Ok(y)) = (i64::try_from(x), i64::try_from(y)) {
+            return Ok(x as i128 * y as i128);
+        }
         x.checked_mul(y).ok_or(Excess {
             op: NumOp::Times,
             x,
@@ -57,20 +60,11 @@ impl Num {
 
     /// The greatest common divisor, in the order of divisibility: it divides both numbers, and each number that divides both divides it.
     /// The greatest common divisor is 0 for 0 and 0 alone.
-    ///
-    /// The algorithm is Euclid's (Elements, book VII, proposition 2, about 300 BC).
     pub fn gcd(x: u128, y: u128) -> u128
         ensures greatest { IsGcd x y result }
         ensures zero { (result ≡ 0) ↔ ((x ≡ 0) × (y ≡ 0)) }
     {
-        let mut greater = x;
-        let mut rest = y;
-        while rest != 0 {
-            let next = greater % rest;
-            greater = rest;
-            rest = next;
-        }
-        greater
+        gcd::gcd(x, y)
     }
 }
 
@@ -139,6 +133,12 @@ mod tests {
             (1, u128::MAX, 1),
             (1 << 127, 1 << 100, 1 << 100),
             (u128::MAX, u128::MAX, u128::MAX),
+            // Each beside the other's side of 64 bits, and both above it.
+            (u64::MAX as u128, u128::MAX, u64::MAX as u128),
+            (5 << 70, 15, 5),
+            (15, 5 << 70, 5),
+            (9 << 65, 3 << 64, 3 << 64),
+            ((1 << 64) - 4, (1 << 63) - 2, (1 << 63) - 2),
         ];
         for (x, y, greatest) in cases {
             assert_eq!(rt; Num::gcd(x, y), greatest, "{x} and {y}");
