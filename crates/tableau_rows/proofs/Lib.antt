@@ -1,0 +1,6 @@
+pub mod Formed
+pub mod Fronts
+pub mod Merging
+pub mod Quotients
+pub mod Ring
+pub mod Totals

@@ -1,0 +1,4 @@
+pub mod Equation
+pub mod Merge
+pub mod Proper
+pub mod Substitution
