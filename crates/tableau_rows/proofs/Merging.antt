@@ -1,6 +1,8 @@
 -- Two equations that are put together column by column.
-use Rattle.std.proofs.Common.{◌≡◌, ◌≢◌, ℕ, zero, suc, ◌+◌, ◌<◌, ◌≤◌, ◌⊎◌, List, [], ◌∷◌, length, ℤ, pos, negsuc, neg_ℤ, ◌+ℤ◌, ◌-ℤ◌, ◌*ℤ◌, All, refl, sym, ap, ◌∙◌, subst, inl, inr, ⊎_elim, arith}
+use Rattle.std.proofs.Common.{◌≡◌, ◌≢◌, ℕ, zero, suc, ◌+◌, ◌<◌, ◌≤◌, ◌⊎◌, List, [], ◌∷◌, length, ℤ, pos, negsuc, neg_ℤ, ◌+ℤ◌, ◌-ℤ◌, ◌*ℤ◌, FitsSigned, All, refl, sym, ap, ◌∙◌, subst, inl, inr, ⊎_elim, arith}
+use Rattle.std.specs.Int.{w128}
 use Rattle.std.proofs.lemmas.Int.{ints}
+use Rattle.std.proofs.lemmas.Bool.{cases_eq}
 use Rattle.std.proofs.lemmas.List.Elements.{All-head, All-nil, All-weaker}
 use Rattle.tableau_rows.specs.declared.entry.Entry.{Entry}
 use Rattle.tableau_rows.specs.declared.equation.Equation.{Equation}
@@ -45,6 +47,7 @@ pub record Merging (row pivot : Equation) (p q : ℤ) (entering : ℕ) (left rig
   pub left_same : (n : ℕ) → floor ≤ n → coefficient left n ≡ taken row n
   pub right_same : (n : ℕ) → floor ≤ n → coefficient right n ≡ taken pivot n
   pub balanced : p *ℤ coefficient left entering ≡ q *ℤ coefficient right entering
+  pub own_fits : FitsSigned w128 (neg_ℤ (coefficient entries row.basic))
   pub sums : (number : ℕ → ℤ) → total number entries +ℤ turned p (p *ℤ total number left -ℤ q *ℤ total number right) ≡ turned p (p *ℤ sum_at number row -ℤ q *ℤ sum_at number pivot)
 
 pub Merging-begin : (row pivot : Equation) (p q : ℤ) (entering : ℕ) → IsSparse row.entries.items → IsSparse pivot.entries.items
@@ -60,12 +63,16 @@ Merging-begin row pivot p q entering row_sparse pivot_sparse factors = record {
   left_same = λ n above. refl;
   right_same = λ n above. refl;
   balanced = rw (factors.first, factors.second) (sym (mul_assoc p q (pos factors.divisor)) ∙ ap (λ z. z *ℤ pos factors.divisor) (mul_comm p q) ∙ mul_assoc q p (pos factors.divisor));
+  own_fits = omega (arith, ints);
   sums = λ number. omega (arith, ints);
 }
 
 pub BeginsAt_above : (floor column : ℕ) (entries : List Entry) → BeginsAt column entries → All (λ entry. floor ≤ entry.column) entries → floor ≤ column
 BeginsAt_above floor column [] begins above = absurd begins
 BeginsAt_above floor column (e ∷ entries) begins above = omega (arith, begins, All-head (λ entry. floor ≤ entry.column) e entries above)
+
+by_eq : {P : Type 0} (a b : ℕ) → (a ≡ b → P) → (a ≢ b → P) → P
+by_eq a b same other = ⊎_elim same other (cases_eq a b)
 
 -- how often the column of a split is taken, and another one
 pub split_taken : (entries rest : List Entry) (column : ℕ) (coeff : ℤ) → IsSplitOff entries column coeff rest → coefficient entries column ≡ coeff
@@ -99,12 +106,22 @@ module _ (row pivot : Equation) (p q : ℤ) (entering : ℕ) (left right entries
   above' : (rest : List Entry) → All (λ entry. column < entry.column) rest → All (λ entry. column + 1 ≤ entry.column) rest
   above' rest h = All-weaker (λ entry. column < entry.column) (λ entry. column + 1 ≤ entry.column) (λ entry h. omega arith) rest h
 
+  -- what the new entry does to the coefficients
+  own_put : (entries' : List Entry) (z : ℤ) → ((number : ℕ → ℤ) → total number entries' ≡ total number entries +ℤ z *ℤ number column) → column ≡ row.basic → coefficient entries' row.basic ≡ z
+  own_put entries' z sums same =
+      let none = coefficient_none entries column (All-weaker (λ entry. entry.column < column) (λ entry. entry.column ≢ column) (λ entry h same. absurd (omega arith)) entries entries_below) in
+      let here : coefficient entries' column ≡ z = omega (arith, ints, sums (unit column), none, ap (λ u. z *ℤ u) (unit_same column)) in
+      rw (← same) here
+
+  other_put : (entries' : List Entry) (z : ℤ) → ((number : ℕ → ℤ) → total number entries' ≡ total number entries +ℤ z *ℤ number column) → (n : ℕ) → n ≢ column → coefficient entries' n ≡ coefficient entries n
+  other_put entries' z sums n other = omega (arith, ints, sums (unit n), ap (λ u. z *ℤ u) (unit_other n column other))
+
   -- the column's new entry was put to the others
-  pub Merging-put : (entries' : List Entry) (z : ℤ) → column ≢ entering → z ≡ turned p (p *ℤ a -ℤ q *ℤ b)
+  pub Merging-put : (entries' : List Entry) (z : ℤ) → column ≢ entering → (column ≡ row.basic → FitsSigned w128 (neg_ℤ z)) → z ≡ turned p (p *ℤ a -ℤ q *ℤ b)
       → IsSparse entries' → All (λ entry. entry.column < column + 1) entries'
       → ((number : ℕ → ℤ) → total number entries' ≡ total number entries +ℤ z *ℤ number column)
       → Merging row pivot p q entering left' right' entries'
-  Merging-put entries' z stays is_z sparse below sums = record {
+  Merging-put entries' z stays own is_z sparse below sums = record {
     floor = column + 1;
     sparse = sparse;
     below = below;
@@ -114,6 +131,8 @@ module _ (row pivot : Equation) (p q : ℤ) (entering : ℕ) (left right entries
     right_above = above' right' of_right.above;
     left_same = λ n above. split_other left left' column a of_left n (λ same. absurd (omega arith)) ∙ m.left_same n (omega (arith, floor_below));
     right_same = λ n above. split_other right right' column b of_right n (λ same. absurd (omega arith)) ∙ m.right_same n (omega (arith, floor_below));
+    own_fits = by_eq column row.basic (λ same. subst (λ w. FitsSigned w128 (neg_ℤ w)) (sym (own_put entries' z sums same)) (own same))
+        (λ other. subst (λ w. FitsSigned w128 (neg_ℤ w)) (sym (other_put entries' z sums row.basic (λ same. other (sym same)))) m.own_fits);
     balanced = rw (split_other left left' column a of_left entering (λ same. stays (sym same)), split_other right right' column b of_right entering (λ same. stays (sym same))) (m.balanced);
     sums = λ number.
         let split = combined_split p q a b (number column) (total number left') (total number right') _ _ (of_left.sums number) (of_right.sums number) in
@@ -140,6 +159,7 @@ module _ (row pivot : Equation) (p q : ℤ) (entering : ℕ) (left right entries
         right_above = above' right' of_right.above;
         left_same = λ n above. split_other left left' column a of_left n (λ same. absurd (omega arith)) ∙ m.left_same n (omega (arith, floor_below));
         right_same = λ n above. split_other right right' column b of_right n (λ same. absurd (omega arith)) ∙ m.right_same n (omega (arith, floor_below));
+        own_fits = m.own_fits;
         balanced = rw (gone_left, gone_right) (omega (arith, ints));
         sums = λ number.
             let split = combined_split p q a b (number column) (total number left') (total number right') _ _ (of_left.sums number) (of_right.sums number) in

@@ -1,5 +1,5 @@
 -- Sums over columns: a list that grows, a single column, and equal numbers.
-use Rattle.std.proofs.Common.{◌≡◌, ◌≢◌, ℕ, suc, ◌+◌, ◌<◌, List, [], ◌∷◌, ◌++◌, length, get_or, cond, eqb, ℤ, pos, ◌+ℤ◌, ◌*ℤ◌, All, refl, sym, ap, ◌∙◌, arith}
+use Rattle.std.proofs.Common.{◌≡◌, ◌≢◌, ℕ, zero, suc, ◌+◌, ◌<◌, List, [], ◌∷◌, ◌++◌, length, get_or, cond, eqb, ℤ, pos, ◌+ℤ◌, ◌*ℤ◌, All, refl, sym, ap, ◌∙◌, arith}
 use Rattle.std.specs.Prelude.{AllPairs}
 use Rattle.std.proofs.lemmas.Int.{ints}
 use Rattle.std.proofs.lemmas.Bool.Decides.{nat_tests}
@@ -37,3 +37,13 @@ coefficient_first e entries above =
     let rest = coefficient_none entries e.column (All-weaker (λ later. e.column < later.column) (λ later. later.column ≢ e.column) (λ later h same. absurd (omega arith)) entries above) in
     let here = unit_same e.column in
     omega (arith, ints, rest, ap (λ u. e.coeff *ℤ u) here)
+
+-- each entry's coefficient is that of its column
+pub coefficient_at : (entries : List Entry) → AllPairs (λ entry later. entry.column < later.column) entries → (i : ℕ) (d : Entry) → i < length entries → coefficient entries (get_or entries i d).column ≡ (get_or entries i d).coeff
+coefficient_at [] rising i d within = absurd (omega arith)
+coefficient_at (e ∷ entries) rising zero d within = coefficient_first e entries (rising-head e entries rising)
+coefficient_at (e ∷ entries) rising (suc i) d within =
+    let rest = coefficient_at entries (rising-tail e entries rising) i d (omega arith) in
+    let after : e.column < (get_or entries i d).column = rising 0 (suc i) d (omega arith) (omega arith) in
+    let other = unit_other (get_or entries i d).column e.column (λ same. absurd (omega arith)) in
+    omega (arith, ints, rest, ap (λ u. e.coeff *ℤ u) other)

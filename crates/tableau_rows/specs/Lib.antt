@@ -1,4 +1,5 @@
 pub mod Equation
 pub mod Merge
 pub mod Proper
+pub mod Reduction
 pub mod Substitution

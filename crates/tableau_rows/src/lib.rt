@@ -8,6 +8,8 @@ mod entry;
 mod equation;
 mod merge;
 mod quotient;
+mod reduction;
+mod solved;
 mod substitution;
 
 pub use entry::Entry;

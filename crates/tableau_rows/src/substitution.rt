@@ -1,8 +1,10 @@
-ghost use Rattle.std.specs.Prelude.{◌≡◌, ◌≢◌, ℕ, ◌<◌, ◌+◌, ℤ, pos, ◌+ℤ◌, ◌*ℤ◌, ◌-ℤ◌, ◌<ℤ◌, All, IfOk, IfErr, OnOk};
+ghost use Rattle.std.specs.Prelude.{◌≡◌, ◌≢◌, ℕ, ◌<◌, ◌+◌, ℤ, pos, ◌+ℤ◌, ◌*ℤ◌, ◌-ℤ◌, ◌<ℤ◌, neg_ℤ, unsigned_abs, FitsSigned, All, IfOk, IfErr, OnOk};
+ghost use Rattle.std.specs.Int.{w128};
 ghost use Rattle.tableau_rows.specs.Equation.{total as total_of, IsSparse as IsSparseList};
 ghost use Rattle.wx_num.specs.Excess.{Overflows};
 
 use crate::merge::{least_column, split_front};
+use crate::quotient::quotient;
 use crate::{Entry, Equation};
 use std::alloc::Global;
 use wx_base::NoMemory;
@@ -19,9 +21,33 @@ pub(crate) struct Substitution<'a> {
 }
 
 impl Substitution<'_> {
-    ghost use Rattle.tableau_rows.specs.Equation.{total, IsSparse};
+    ghost use Rattle.tableau_rows.specs.Equation.{total, coefficient, IsSparse};
     ghost use Rattle.tableau_rows.specs.Substitution.{taken, sum_at, IsStep};
     ghost use Rattle.tableau_rows.specs.Proper.{turned, IsProper};
+
+    /// Puts the pivot into the row for the column that enters.
+    pub(crate) fn new<'a>(row: &'a Equation, pivot: &'a Equation, entering: u32) -> Substitution<'a>
+        requires pivot_takes { taken pivot.now entering ≢ pos 0 }
+        requires row_takes { taken row.now entering ≢ pos 0 }
+        requires apart { row.now.basic ≢ pivot.now.basic }
+        requires pivot_without { taken pivot.now row.now.basic ≡ pos 0 }
+        requires row_without { taken row.now pivot.now.basic ≡ pos 0 }
+        ensures proper { IsProper result }
+        ensures row { result.row.now ≡ row.entry.now }
+        ensures pivot { result.pivot.now ≡ pivot.entry.now }
+        ensures entering { result.entering ≡ entering }
+    {
+        let in_pivot = pivot.coefficient(entering);
+        let in_row = row.coefficient(entering);
+        let divisor = Num::gcd(in_pivot.unsigned_abs(), in_row.unsigned_abs());
+        Substitution {
+            row,
+            pivot,
+            entering,
+            of_row: quotient(in_pivot, divisor),
+            of_pivot: quotient(in_row, divisor),
+        }
+    }
 
     /// The entries of the row where the pivot is put into it, before they are reduced.
     pub(crate) fn entries(&self, alloc: Global) -> Result<Result<Vec<Entry>, Excess>, NoMemory>
@@ -29,6 +55,7 @@ impl Substitution<'_> {
         ensures sparse { IfOk result (λ found. IfOk found (λ entries. IsSparse entries.items)) }
         ensures sums { IfOk result (λ found. IfOk found (λ entries. (number : ℕ → ℤ) → total number entries.items
             ≡ turned self.now.of_row (self.now.of_row *ℤ sum_at number self.now.row.now -ℤ self.now.of_pivot *ℤ sum_at number self.now.pivot.now))) }
+        ensures own { IfOk result (λ found. IfOk found (λ entries. FitsSigned w128 (neg_ℤ (coefficient entries.items self.now.row.now.basic)))) }
         ensures step { IfOk result (λ found. IfErr found (IsStep self.now.row.now self.now.pivot.now self.now.of_row self.now.of_pivot self.now.entering)) }
         ensures overflows { IfOk result (λ found. IfErr found Overflows) }
     {
@@ -62,6 +89,7 @@ impl Substitution<'_> {
         requires row { in_row ≡ taken self.now.row.now column }
         requires pivot { in_pivot ≡ taken self.now.pivot.now column }
         ensures value { IfOk result (λ z. z ≡ turned self.now.of_row (self.now.of_row *ℤ in_row -ℤ self.now.of_pivot *ℤ in_pivot)) }
+        ensures own { column ≡ self.now.row.now.basic → IfOk result (λ z. FitsSigned w128 (neg_ℤ z)) }
         ensures step { IfErr result (IsStep self.now.row.now self.now.pivot.now self.now.of_row self.now.of_pivot self.now.entering) }
         ensures overflows { IfErr result Overflows }
     {
@@ -78,6 +106,7 @@ impl Substitution<'_> {
     fn own(&self) -> Result<i128, Excess>
         requires proper { IsProper self.now }
         ensures value { IfOk result (λ z. z ≡ turned self.now.of_row (self.now.of_row *ℤ taken self.now.row.now self.now.row.now.basic)) }
+        ensures own { IfOk result (λ z. FitsSigned w128 (neg_ℤ z)) }
         ensures step { IfErr result (IsStep self.now.row.now self.now.pivot.now self.now.of_row self.now.of_pivot self.now.entering) }
         ensures overflows { IfErr result Overflows }
     {

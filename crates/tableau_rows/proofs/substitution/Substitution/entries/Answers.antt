@@ -36,7 +36,7 @@ loop-column-preserved-in-Continue-1 c =
     let pivot_fits : FitsSigned w128 c.split_front-in_pivot.result.0 = search rules in
     let coeff_fits : FitsSigned w128 c.in-Ok.coeff = search rules in
     Merging-put s.row.now s.pivot.now s.of_row s.of_pivot s.entering _ _ _ c.loop-column.invariant c.in-Some.column c.in-Some.ensures.first _ _ _ _ c.split_front-in_row.ensures.split c.split_front-in_pivot.ensures.split
-    c.put.new.entries.items c.in-Ok.coeff stays (simp to_z-of_z at c.in-Ok.ensures.value) c.in_ok-put-in-Ok.ensures.sparse c.in_ok-put-in-Ok.ensures.last (simp to_z-of_z at c.in_ok-put-in-Ok.ensures.sums)
+    c.put.new.entries.items c.in-Ok.coeff stays c.in-Ok.ensures.own (simp to_z-of_z at c.in-Ok.ensures.value) c.in_ok-put-in-Ok.ensures.sparse c.in_ok-put-in-Ok.ensures.last (simp to_z-of_z at c.in_ok-put-in-Ok.ensures.sums)
 
 pub loop-column-preserved : goal.loop-column-preserved
 loop-column-preserved c =
