@@ -1,8 +1,12 @@
 pub mod Divided
+pub mod FirstRows
 pub mod Formed
 pub mod Fronts
 pub mod Merging
+pub mod Others
 pub mod Quotients
 pub mod Ring
 pub mod Searched
+pub mod Substituted
 pub mod Totals
+pub mod Turned

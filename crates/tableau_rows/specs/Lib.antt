@@ -3,3 +3,4 @@ pub mod Merge
 pub mod Proper
 pub mod Reduction
 pub mod Substitution
+pub mod Turning

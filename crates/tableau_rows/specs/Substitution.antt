@@ -26,6 +26,17 @@ pub record AreInLowestTerms (a b p q : ℤ) : Type 0 where
   pub first : a ≡ p *ℤ pos divisor
   pub second : b ≡ q *ℤ pos divisor
 
+-- one equation is a multiple of the other
+pub record IsMultiple (new equation : Equation) : Type 0 where
+  pub factor : ℤ
+  pub factor_nonzero : factor ≢ pos 0
+  pub sums : (number : ℕ → ℤ) → sum_at number new ≡ factor *ℤ sum_at number equation
+
+-- a coefficient whose sign is turned
+pub record IsTurningStep (equation : Equation) (step : Excess) : Type 0 where
+  pub column : ℕ
+  pub formed : step ≡ record { op = Minus; x = pos 0; y = taken equation column }
+
 -- `p` times one equation less `q` times the other, divided by a number
 pub record IsCombination (new row pivot : Equation) : Type 0 where
   pub p : ℤ
