@@ -1,5 +1,5 @@
 -- Entries that are divided by a common divisor.
-use Rattle.std.proofs.Common.{◌≡◌, ◌≢◌, ℕ, zero, suc, ◌+◌, ◌*◌, ◌<◌, ◌≤◌, List, [], ◌∷◌, length, get_or, take, set, ℤ, pos, negsuc, neg_ℤ, ◌^◌, ◌+ℤ◌, ◌*ℤ◌, ◌≤ℤ◌, ◌<ℤ◌, FitsSigned, All, refl, sym, ap, ◌∙◌, subst, ⊎_elim, arith}
+use Rattle.std.proofs.Common.{◌≡◌, ◌≢◌, ℕ, zero, suc, ◌+◌, ◌*◌, ◌<◌, ◌≤◌, List, [], ◌∷◌, length, get_or, take, set, ℤ, pos, negsuc, neg_ℤ, ◌^◌, ◌*ℤ◌, ◌≤ℤ◌, ◌<ℤ◌, FitsSigned, All, sym, ap, ◌∙◌, subst, ⊎_elim, arith}
 use Rattle.std.specs.Prelude.{unsigned_abs}
 use Rattle.std.specs.Int.{◌∣◌, IsGcd}
 use Rattle.std.proofs.lemmas.Int.{ints, unsigned_abs-mul}
@@ -8,9 +8,9 @@ use Rattle.std.proofs.lemmas.Bool.{cases_lt}
 use Rattle.std.proofs.lemmas.List.{get_or-take, length-take, take-take, get_or_default, get_or-set_same, get_or-set_other}
 use Rattle.std.proofs.Math.Nat.{mul-dvd-mul_right, dvd_of_mul-dvd-mul_right, eq-one_of_dvd-one, one-mul}
 use Rattle.std.proofs.lemmas.List.Elements.{All-more, All-take, All-weaker, All-same}
-use Rattle.std.proofs.lemmas.Nat.Gcd.{dvd_trans, dvd-zero}
+use Rattle.std.proofs.lemmas.Nat.Gcd.{dvd_trans}
 use Rattle.tableau_rows.specs.declared.entry.Entry.{Entry}
-use Rattle.tableau_rows.specs.Equation.{total, coefficient, IsSparse, IsReduced}
+use Rattle.tableau_rows.specs.Equation.{total, IsSparse, IsReduced}
 use Rattle.tableau_rows.specs.Reduction.{IsDivided, AreDivided}
 use Rattle.tableau_rows.proofs.Ring.{mul_assoc, mul-add, mul_comm}
 

@@ -1,5 +1,5 @@
 -- The equation of a row of a system.
-use Rattle.std.proofs.Common.{◌≡◌, ◌≢◌, ℕ, zero, suc, ◌+◌, ◌<◌, List, [], ◌∷◌, ◌++◌, length, get_or, map, ℤ, pos, negsuc, ◌+ℤ◌, ◌*ℤ◌, All, refl, sym, ap, ◌∙◌, subst, arith}
+use Rattle.std.proofs.Common.{◌≡◌, ◌≢◌, ℕ, ◌<◌, List, [], ◌∷◌, ◌++◌, length, map, ℤ, pos, negsuc, ◌+ℤ◌, ◌*ℤ◌, All, refl, ap, ◌∙◌, subst, arith}
 use Rattle.std.specs.Prelude.{AllPairs, unsigned_abs}
 use Rattle.std.specs.Int.{◌∣◌}
 use Rattle.std.proofs.lemmas.Int.{ints}
@@ -10,7 +10,7 @@ use Rattle.std.proofs.Math.Nat.{eq-one_of_dvd-one}
 use Rattle.mix_system.specs.declared.row.Part.{Part}
 use Rattle.mix_system.specs.Sum.{int_sum_by}
 use Rattle.tableau_rows.specs.declared.entry.Entry.{Entry}
-use Rattle.tableau_rows.specs.Equation.{total, unit, coefficient, IsSolved}
+use Rattle.tableau_rows.specs.Equation.{total, unit, IsSolved}
 use Rattle.tableau_rows.specs.Turning.{entry_of}
 use Rattle.tableau_rows.proofs.Totals.{total_push, unit_same, coefficient_none}
 

@@ -1,5 +1,5 @@
 -- The steps of a substitution, as the code meets them.
-use Rattle.std.proofs.Common.{◌≡◌, ◌≢◌, ℕ, ℤ, pos, ◌*ℤ◌, ◌-ℤ◌, ◌<ℤ◌, Result, sym, subst}
+use Rattle.std.proofs.Common.{◌≡◌, ℕ, ℤ, pos, ◌<ℤ◌, Result, sym, subst}
 use Rattle.std.specs.Prelude.{IfErr}
 use Rattle.std.proofs.lemmas.Result.{IfErr-weaker}
 use Rattle.wx_num.specs.declared.excess.NumOp.TheVariants.{Minus}

@@ -1,12 +1,11 @@
 -- The front of a list of rising columns.
-use Rattle.std.proofs.Common.{◌≡◌, ◌≢◌, ℕ, zero, suc, ◌+◌, ◌-◌, ◌<◌, ◌≤◌, List, [], ◌∷◌, length, get_or, take, drop, ℤ, pos, ◌+ℤ◌, ◌*ℤ◌, All, refl, sym, ap, ◌∙◌, arith}
-use Rattle.std.specs.Prelude.{AllPairs}
+use Rattle.std.proofs.Common.{◌≡◌, ◌≢◌, ℕ, zero, suc, ◌+◌, ◌-◌, ◌<◌, ◌≤◌, List, [], ◌∷◌, length, get_or, take, drop, pos, ◌*ℤ◌, All, ap, arith}
 use Rattle.std.proofs.lemmas.Int.{ints}
 use Rattle.std.proofs.lemmas.List.{take_all}
 use Rattle.std.proofs.lemmas.List.Elements.{All-head, All-tail, All-weaker, All-nil}
 use Rattle.tableau_rows.specs.declared.entry.Entry.{Entry}
-use Rattle.tableau_rows.specs.Equation.{total, unit, coefficient, IsSparse}
-use Rattle.tableau_rows.specs.Merge.{BeginsAt, IsSplitOff}
+use Rattle.tableau_rows.specs.Equation.{IsSparse}
+use Rattle.tableau_rows.specs.Merge.{IsSplitOff}
 use Rattle.tableau_rows.proofs.Totals.{rising-tail, rising-head}
 
 -- the first column is the least

@@ -1,5 +1,5 @@
 -- Two equations that are put together column by column.
-use Rattle.std.proofs.Common.{◌≡◌, ◌≢◌, ℕ, zero, suc, ◌+◌, ◌<◌, ◌≤◌, ◌⊎◌, List, [], ◌∷◌, length, ℤ, pos, negsuc, neg_ℤ, ◌+ℤ◌, ◌-ℤ◌, ◌*ℤ◌, FitsSigned, All, refl, sym, ap, ◌∙◌, subst, inl, inr, ⊎_elim, arith}
+use Rattle.std.proofs.Common.{◌≡◌, ◌≢◌, ℕ, ◌+◌, ◌<◌, ◌≤◌, ◌⊎◌, List, [], ◌∷◌, length, ℤ, pos, negsuc, neg_ℤ, ◌+ℤ◌, ◌-ℤ◌, ◌*ℤ◌, FitsSigned, All, refl, sym, ap, ◌∙◌, subst, ⊎_elim, arith}
 use Rattle.std.specs.Int.{w128}
 use Rattle.std.proofs.lemmas.Int.{ints}
 use Rattle.std.proofs.lemmas.Bool.{cases_eq}
@@ -10,7 +10,7 @@ use Rattle.tableau_rows.specs.Equation.{total, unit, coefficient, IsSparse}
 use Rattle.tableau_rows.specs.Merge.{BeginsAt, IsSplitOff}
 use Rattle.tableau_rows.specs.Substitution.{taken, sum_at, AreInLowestTerms}
 use Rattle.tableau_rows.specs.Proper.{turned}
-use Rattle.tableau_rows.proofs.Ring.{mul_assoc, mul-add, mul-sub, sub-mul, neg-mul, mul_comm}
+use Rattle.tableau_rows.proofs.Ring.{mul_assoc, mul-add, sub-mul, neg-mul, mul_comm}
 use Rattle.tableau_rows.proofs.Totals.{unit_same, unit_other, coefficient_none}
 
 pub turned-add : (p a b : ℤ) → turned p (a +ℤ b) ≡ turned p a +ℤ turned p b

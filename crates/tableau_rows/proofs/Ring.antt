@@ -1,8 +1,8 @@
 -- Laws of products of whole numbers.
-use Rattle.std.proofs.Common.{◌≡◌, ◌≢◌, ◌+◌, ◌*◌, ℕ, zero, suc, ℤ, pos, negsuc, ◌+ℤ◌, ◌-ℤ◌, ◌*ℤ◌, neg_ℤ, arith, refl, sym, ap, ◌∙◌}
+use Rattle.std.proofs.Common.{◌≡◌, ◌≢◌, ◌+◌, ◌*◌, ℕ, zero, suc, ℤ, pos, negsuc, ◌+ℤ◌, ◌-ℤ◌, ◌*ℤ◌, neg_ℤ, arith, refl, ap, ◌∙◌}
 use Rattle.std.proofs.lemmas.Int.{ints}
 use Rattle.std.proofs.Math.IntN.{*ℤ_comm}
-use borrow.Author.Differences.{up, down, same_in, sum_is_lem, product_is, neg_is}
+use borrow.Author.Differences.{up, down, sum_is_lem, product_is, neg_is}
 
 crossed : (x y c d : ℕ) → x ≡ y → x * c + y * d ≡ y * c + x * d
 crossed x y c d e = rw e refl

@@ -1,12 +1,12 @@
 -- What a substitution makes of the sums.
-use Rattle.std.proofs.Common.{◌≡◌, ◌≢◌, ℕ, zero, suc, ◌+◌, ◌*◌, ◌<◌, List, ℤ, pos, negsuc, neg_ℤ, ◌+ℤ◌, ◌-ℤ◌, ◌*ℤ◌, ◌≤ℤ◌, ◌<ℤ◌, refl, sym, ap, ◌∙◌, subst, arith}
+use Rattle.std.proofs.Common.{◌≡◌, ◌≢◌, ℕ, zero, suc, ◌<◌, List, ℤ, pos, negsuc, neg_ℤ, ◌-ℤ◌, ◌*ℤ◌, ◌≤ℤ◌, ◌<ℤ◌, refl, sym, ap, ◌∙◌, arith}
 use Rattle.std.proofs.lemmas.Int.{ints}
 use Rattle.tableau_rows.specs.declared.entry.Entry.{Entry}
 use Rattle.tableau_rows.specs.declared.equation.Equation.{Equation}
 use Rattle.tableau_rows.specs.Equation.{total, unit, coefficient}
 use Rattle.tableau_rows.specs.Substitution.{taken, sum_at, AreInLowestTerms, IsCombination}
 use Rattle.tableau_rows.specs.Proper.{turned}
-use Rattle.tableau_rows.proofs.Ring.{mul_assoc, mul-sub, neg-mul, mul_comm, mul-eq-zero}
+use Rattle.tableau_rows.proofs.Ring.{mul_assoc, neg-mul, mul_comm, mul-eq-zero}
 
 turned_combination : (p q r s : ℤ) → turned p (p *ℤ r -ℤ q *ℤ s) ≡ turned p p *ℤ r -ℤ turned p q *ℤ s
 turned_combination (pos p) q r s = refl

@@ -1,12 +1,12 @@
 -- Sums over columns: a list that grows, a single column, and equal numbers.
-use Rattle.std.proofs.Common.{◌≡◌, ◌≢◌, ℕ, zero, suc, ◌+◌, ◌<◌, List, [], ◌∷◌, ◌++◌, length, get_or, cond, eqb, ℤ, pos, ◌+ℤ◌, ◌*ℤ◌, All, refl, sym, ap, ◌∙◌, arith}
+use Rattle.std.proofs.Common.{◌≡◌, ◌≢◌, ℕ, zero, suc, ◌<◌, List, [], ◌∷◌, ◌++◌, length, get_or, ℤ, pos, ◌+ℤ◌, ◌*ℤ◌, All, refl, sym, ap, arith}
 use Rattle.std.specs.Prelude.{AllPairs}
 use Rattle.std.proofs.lemmas.Int.{ints}
 use Rattle.std.proofs.lemmas.Bool.Decides.{nat_tests}
 use Rattle.std.proofs.lemmas.List.Elements.{All-head, All-tail, All-weaker}
-use Rattle.mix_system.proofs.Sums.{int_sum_by_push, int_sum_by-append}
+use Rattle.mix_system.proofs.Sums.{int_sum_by_push}
 use Rattle.tableau_rows.specs.declared.entry.Entry.{Entry}
-use Rattle.tableau_rows.specs.Equation.{total, unit, coefficient, IsSparse}
+use Rattle.tableau_rows.specs.Equation.{total, unit, coefficient}
 
 pub unit_same : (n : ℕ) → unit n n ≡ pos 1
 unit_same n = grind (arith, nat_tests)

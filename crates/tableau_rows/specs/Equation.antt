@@ -1,5 +1,5 @@
 -- Sums over columns, and what an equation of a tableau keeps.
-use Rattle.std.specs.Prelude.{◌≡◌, ◌≢◌, ℕ, ◌<◌, ◌+◌, ℤ, pos, ◌*ℤ◌, ◌≤ℤ◌, neg_ℤ, unsigned_abs, List, cond, ◌==◌, length, All, AllPairs}
+use Rattle.std.specs.Prelude.{◌≡◌, ◌≢◌, ℕ, ◌<◌, ℤ, pos, ◌*ℤ◌, ◌≤ℤ◌, neg_ℤ, unsigned_abs, List, cond, ◌==◌, All, AllPairs}
 use Rattle.std.specs.Int.{◌∣◌}
 use Rattle.mix_system.specs.Sum.{int_sum_by}
 use Rattle.tableau_rows.specs.declared.entry.Entry.{Entry}

@@ -1,7 +1,7 @@
 -- Two lists of rising columns, taken apart column by column.
-use Rattle.std.specs.Prelude.{◌≡◌, ◌<◌, ◌≤◌, ◌+◌, ◌⊎◌, ℕ, ℤ, pos, ◌+ℤ◌, ◌*ℤ◌, List, [], ◌∷◌, length, All}
+use Rattle.std.specs.Prelude.{◌≡◌, ◌<◌, ℕ, ℤ, ◌+ℤ◌, ◌*ℤ◌, List, [], ◌∷◌, All}
 use Rattle.tableau_rows.specs.declared.entry.Entry.{Entry}
-use Rattle.tableau_rows.specs.Equation.{total, coefficient, IsSparse}
+use Rattle.tableau_rows.specs.Equation.{total, IsSparse}
 
 -- the first entry is of that column
 abbrev pub BeginsAt : ℕ → List Entry → Type 0

@@ -1,5 +1,5 @@
 -- Entries whose coefficients were divided by a number.
-use Rattle.std.specs.Prelude.{◌≡◌, ℕ, ◌<◌, ℤ, pos, ◌*ℤ◌, List, length, slice_index_or}
+use Rattle.std.specs.Prelude.{◌≡◌, ℕ, ◌<◌, pos, ◌*ℤ◌, List, length, slice_index_or}
 use Rattle.tableau_rows.specs.declared.entry.Entry.{Entry}
 
 -- the second has the same column, and the first's coefficient is the divisor times its own

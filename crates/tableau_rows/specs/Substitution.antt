@@ -1,9 +1,8 @@
 -- One equation put into another, and the steps of it.
-use Rattle.std.specs.Prelude.{◌≡◌, ◌≢◌, ◌⊎◌, ℕ, ◌<◌, ℤ, pos, ◌+ℤ◌, ◌-ℤ◌, ◌*ℤ◌, ◌<ℤ◌, neg_ℤ, unsigned_abs, List, Contains}
+use Rattle.std.specs.Prelude.{◌≡◌, ◌≢◌, ℕ, ℤ, pos, ◌-ℤ◌, ◌*ℤ◌, ◌<ℤ◌, unsigned_abs}
 use Rattle.std.specs.Int.{IsGcd}
-use Rattle.wx_num.specs.declared.excess.NumOp.TheVariants.{Plus, Minus, Times}
+use Rattle.wx_num.specs.declared.excess.NumOp.TheVariants.{Minus, Times}
 use Rattle.wx_num.specs.declared.excess.Excess.{Excess}
-use Rattle.tableau_rows.specs.declared.entry.Entry.{Entry}
 use Rattle.tableau_rows.specs.declared.equation.Equation.{Equation}
 use Rattle.tableau_rows.specs.Equation.{total, coefficient}
 

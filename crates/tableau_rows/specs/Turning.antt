@@ -1,5 +1,5 @@
 -- The entries beside the basic column, and entries whose signs are turned.
-use Rattle.std.specs.Prelude.{◌≡◌, ◌⊎◌, ℕ, ◌==◌, Bool, true, false, cond, not, ℤ, ◌*ℤ◌, neg_ℤ, List, ◌∷◌, ◌++◌, filter}
+use Rattle.std.specs.Prelude.{◌≡◌, ◌⊎◌, ℕ, ◌==◌, Bool, true, false, not, ℤ, ◌*ℤ◌, neg_ℤ, List, ◌∷◌, ◌++◌, filter}
 use Rattle.wx_num.specs.declared.excess.NumOp.TheVariants.{Plus, Times}
 use Rattle.wx_num.specs.declared.excess.Excess.{Excess}
 use Rattle.mix_system.specs.declared.row.Part.{Part}

@@ -24,19 +24,37 @@ mod tests {
     #[test]
     fn one_equation_is_put_into_another(rt: HostRuntime) -> Result<(), Fail> {
         let alloc = rt.alloc();
-        let sum = Equation::of_row(alloc, &[Part { coeff: 2, var: 0 }, Part { coeff: 3, var: 1 }], 2)?;
-        let other = Equation::of_row(alloc, &[Part { coeff: 4, var: 0 }, Part { coeff: -1, var: 1 }], 3)?;
+        let sum = Equation::of_row(
+            alloc,
+            &[Part { coeff: 2, var: 0 }, Part { coeff: 3, var: 1 }],
+            2,
+        )?;
+        let other = Equation::of_row(
+            alloc,
+            &[Part { coeff: 4, var: 0 }, Part { coeff: -1, var: 1 }],
+            3,
+        )?;
         assert_ne!(rt; sum.coefficient(1), 0);
         let solved = sum.solved_for(alloc, 1)??;
         assert_eq!(rt; (solved.basic, solved.denominator), (1, 3));
-        let taken = [solved.coefficient(0), solved.coefficient(1), solved.coefficient(2), solved.coefficient(3)];
+        let taken = [
+            solved.coefficient(0),
+            solved.coefficient(1),
+            solved.coefficient(2),
+            solved.coefficient(3),
+        ];
         assert_eq!(rt; taken, [-2, -3, 1, 0]);
 
         assert_ne!(rt; other.coefficient(1), 0);
         assert_eq!(rt; (sum.coefficient(3), other.coefficient(2)), (0, 0));
         let put = other.substituted(alloc, &sum, 1)??;
         assert_eq!(rt; (put.basic, put.denominator), (3, 3));
-        let taken = [put.coefficient(0), put.coefficient(1), put.coefficient(2), put.coefficient(3)];
+        let taken = [
+            put.coefficient(0),
+            put.coefficient(1),
+            put.coefficient(2),
+            put.coefficient(3),
+        ];
         assert_eq!(rt; taken, [14, 0, -1, -3]);
         assert_eq!(rt; put.entries.len(), 3);
         Ok(())
@@ -45,7 +63,14 @@ mod tests {
     #[test]
     fn an_excess_names_the_step(rt: HostRuntime) -> Result<(), Fail> {
         let alloc = rt.alloc();
-        let row = Equation::of_row(alloc, &[Part { coeff: 1 << 62, var: 0 }], 1)?;
+        let row = Equation::of_row(
+            alloc,
+            &[Part {
+                coeff: 1 << 62,
+                var: 0,
+            }],
+            1,
+        )?;
         let product = Excess {
             op: NumOp::Times,
             x: 1 << 62,

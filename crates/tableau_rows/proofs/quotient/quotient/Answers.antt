@@ -1,7 +1,5 @@
-use Rattle.std.proofs.Common.{◌≡◌, ◌<◌, ◌^◌, pos, FitsSigned, rules, arith}
-use Rattle.std.specs.Prelude.{◌<ℤ◌}
+use Rattle.std.proofs.Common.{◌≡◌, ◌<◌, ◌^◌, pos, arith}
 use Rattle.std.specs.Int.{w128}
-use Rattle.std.specs.Int.RustNames.{int_div}
 use Rattle.std.proofs.lemmas.Int.{ints, to_z-of_z, to_z_pos, quot_fits}
 use Rattle.std.proofs.lemmas.Bool.Decides.{nat_tests}
 use Rattle.tableau_rows.proofs.Quotients.{divisor_at_most, divisor_positive, least_number, exact_quotient}

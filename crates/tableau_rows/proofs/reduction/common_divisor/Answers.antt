@@ -1,4 +1,4 @@
-use Rattle.std.proofs.Common.{ℕ, length, take, get_or, pos, FitsSigned, All, sym, rules, arith}
+use Rattle.std.proofs.Common.{get_or, pos, FitsSigned, sym, rules, arith}
 use Rattle.std.specs.Int.{w128}
 use Rattle.std.proofs.lemmas.Int.{to_z-of_z}
 use Rattle.std.proofs.lemmas.List.{take_all}

@@ -1,9 +1,7 @@
-use Rattle.std.proofs.Common.{◌≡◌, ◌∙◌, length, get_or, pos, FitsSigned, sym, subst, rules, arith}
-use Rattle.std.specs.Int.{w128, ◌∣◌}
-use Rattle.std.specs.Prelude.{unsigned_abs}
+use Rattle.std.proofs.Common.{◌∙◌, FitsSigned, sym, subst, rules, arith}
+use Rattle.std.specs.Int.{w128}
 use Rattle.std.proofs.lemmas.Int.{to_z-of_z}
 use Rattle.std.proofs.lemmas.List.{length-set}
-use Rattle.tableau_rows.specs.declared.entry.Entry.{Entry}
 use Rattle.tableau_rows.proofs.Divided.{Divides, divided_more, divided_kept}
 use Rattle.tableau_rows.proofs.reduction.divided.Goals as goal
 

@@ -1,4 +1,4 @@
-use Rattle.std.proofs.Common.{◌≡◌, [], ◌∷◌, ◌++◌, get_or, pos, FitsSigned, sym, ap, ◌∙◌, rules, arith}
+use Rattle.std.proofs.Common.{[], ◌∷◌, ◌++◌, get_or, pos, FitsSigned, sym, ◌∙◌, rules}
 use Rattle.std.specs.Int.{w128}
 use Rattle.std.proofs.lemmas.Int.{to_z-of_z}
 use Rattle.tableau_rows.specs.declared.entry.Entry.{Entry}

@@ -1,6 +1,6 @@
-use Rattle.std.proofs.Common.{◌≡◌, pos, neg_ℤ, FitsSigned, All, sym, ap, subst, ◌∙◌, rules, arith}
+use Rattle.std.proofs.Common.{FitsSigned, sym, subst, ◌∙◌, rules, arith}
 use Rattle.std.specs.Int.{w128}
-use Rattle.std.proofs.lemmas.Int.{ints, to_z-of_z}
+use Rattle.std.proofs.lemmas.Int.{ints}
 use Rattle.std.proofs.lemmas.List.Elements.{All-same}
 use Rattle.tableau_rows.specs.Equation.{unit, coefficient, IsSparse}
 use Rattle.tableau_rows.proofs.Divided.{Divides, divided_sums, divided_sparse, divided_reduced, keeps_basic}

@@ -1,9 +1,7 @@
-use Rattle.std.proofs.Common.{FitsSigned, sym, rules}
-use Rattle.std.specs.Prelude.{◌-ℤ◌, ◌*ℤ◌, IfOk}
+use Rattle.std.proofs.Common.{FitsSigned, rules}
 use Rattle.std.specs.Int.{w128}
 use Rattle.std.proofs.lemmas.Int.{to_z-of_z}
 use Rattle.tableau_rows.specs.Substitution.{times_row, times_pivot, difference, other}
-use Rattle.tableau_rows.specs.Proper.{turned}
 use Rattle.tableau_rows.proofs.Formed.{IsStep-same, IsStep-turned}
 use Rattle.tableau_rows.proofs.substitution.Substitution.other.Goals as goal
 
