@@ -1,0 +1,5 @@
+pub mod Laws
+pub mod Levels
+pub mod Refutes
+pub mod Steps
+pub mod Valid

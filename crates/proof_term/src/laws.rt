@@ -1,0 +1,17 @@
+ghost use Rattle.proof_term.specs.Laws.{RefutedBoxesAreEmpty, ValidProofsBound, CutsAreBounds};
+
+/// No whole point lies in a box that a tree refutes.
+pub fn refuted_boxes_are_empty()
+    ensures { RefutedBoxesAreEmpty }
+{}
+
+/// Every point that fits a system meets the goal of each valid proof over it.
+/// A valid proof with the goal [`Goal::Nothing`](crate::Goal) says that no point fits.
+pub fn valid_proofs_bound()
+    ensures { ValidProofsBound }
+{}
+
+/// At every point that fits a system the term of each cut of a valid proof is at most the cut's bound, whatever the goals around it.
+pub fn cuts_are_bounds()
+    ensures { CutsAreBounds }
+{}

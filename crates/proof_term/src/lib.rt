@@ -1,0 +1,19 @@
+//! Proofs that a system of rows and clauses bounds its cost: trees of splits, steps with their levels, and what makes them valid.
+#![tactic(auto)]
+
+mod laws;
+mod open_tree;
+mod partial;
+mod proof;
+mod step;
+mod tree;
+
+pub use laws::{cuts_are_bounds, refuted_boxes_are_empty, valid_proofs_bound};
+pub use open_tree::{OpenNode, OpenNodes, OpenTree};
+pub use partial::{PartLevel, PartLevels, Partial};
+pub use proof::{Goal, Proof, Shape};
+pub use step::{MOST_NESTED, Step, Steps};
+pub use tree::{Node, Nodes, Tree};
+
+#[cfg(test)]
+mod tests;
