@@ -1,6 +1,6 @@
-pub mod Bytes
+pub mod ByteLaws
 pub mod DecidedLaws
-mod Leaders
-mod Places
+mod LeaderLaws
+mod PlaceLaws
 pub mod SaidLaws
 pub mod WorstLaws

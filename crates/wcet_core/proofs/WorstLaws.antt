@@ -13,7 +13,7 @@ use Rattle.wcet_core.specs.FuncMachine.{CostedFunc}
 use Rattle.wcet_core.specs.Trial.{IsFirstBest}
 use Rattle.wcet_core.specs.Worst.{IsWorst, numbers_of}
 use Rattle.wcet_core.specs.declared.trial.Best.{Best}
-use Rattle.wcet_core.proofs.Bytes.{bytes_each}
+use Rattle.wcet_core.proofs.ByteLaws.{bytes_each}
 
 abbrev IsBest : Func → List ℕ → List ℕ → ℕ → Type 0
 IsBest func costs args most = IsFirstBest (λ tried n. Reached func costs n tried) (widths_of func) args most

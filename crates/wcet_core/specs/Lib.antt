@@ -1,3 +1,4 @@
+pub mod Edge
 pub mod FuncMachine
 pub mod Printed
 pub mod Promises

@@ -72,14 +72,14 @@ unfoldable pub exact_text : Witness → How → List ℕ
 exact_text witness by = line (codes "exact " ++ decimal witness.cost) ++ (line (codes "args" ++ flat_map arg_text witness.args) ++ (line (codes "path" ++ flat_map label_text witness.path) ++ (line (codes "result " ++ result_text witness.result) ++ line (codes "method " ++ how_text by))))
 
 -- what is printed
-abbrev pub text_of : Answer → List ℕ
-text_of (answer.Exact witness by) = exact_text witness by
-text_of answer.Usage = line (codes "usage: wcet analyse FUNCTION FILE COSTS")
-text_of (answer.FetchFault file) = line (codes "fault read " ++ which_text file)
-text_of (answer.TooLong file) = line (codes "refused too-long " ++ which_text file)
-text_of (answer.NotYet file) = line (codes "refused not-yet " ++ which_text file)
-text_of (answer.TooWide bits) = line (codes "refused too-wide " ++ decimal bits)
-text_of answer.NoMemory = []
+abbrev pub answer_text : Answer → List ℕ
+answer_text (answer.Exact witness by) = exact_text witness by
+answer_text answer.Usage = line (codes "usage: wcet analyse FUNCTION FILE COSTS")
+answer_text (answer.FetchFault file) = line (codes "fault read " ++ which_text file)
+answer_text (answer.TooLong file) = line (codes "refused too-long " ++ which_text file)
+answer_text (answer.NotYet file) = line (codes "refused not-yet " ++ which_text file)
+answer_text (answer.TooWide bits) = line (codes "refused too-wide " ++ decimal bits)
+answer_text answer.NoMemory = []
 
 -- ---- the status
 

@@ -31,6 +31,6 @@ pub record IsFirstBestBelow (reaches : List ℕ → ℕ → Type 0) (widths : Li
   pub first : (others : List ℕ) → AreArguments widths others → place widths others < place widths args → reaches others cost → ⊥
 
 -- what a leader is worth once the arguments at the first places were tried
-abbrev pub Leads : (List ℕ → ℕ → Type 0) → List ℕ → ℕ → List ℕ → Option ℕ → Type 0
-Leads reaches widths places args None = (others : List ℕ) (n : ℕ) → AreArguments widths others → place widths others < places → reaches others n → ⊥
-Leads reaches widths places args (Some cost) = IsFirstBestBelow reaches widths places args cost
+abbrev pub IsLeader : (List ℕ → ℕ → Type 0) → List ℕ → ℕ → List ℕ → Option ℕ → Type 0
+IsLeader reaches widths places args None = (others : List ℕ) (n : ℕ) → AreArguments widths others → place widths others < places → reaches others n → ⊥
+IsLeader reaches widths places args (Some cost) = IsFirstBestBelow reaches widths places args cost

@@ -3,6 +3,8 @@
 
 mod analyse;
 mod command;
+mod edge;
+mod limits;
 mod machine;
 mod outcome;
 mod printed;
@@ -11,6 +13,8 @@ mod words;
 mod worst;
 
 pub use command::run;
+pub use edge::{NoWords, words_of};
+pub use limits::{COSTS_LIMIT, FILE_LIMIT, MOST_BITS};
 pub use outcome::{Answer, How, Outcome, Which, Witness, Written};
 pub use printed::text;
 pub use trial::{Best, Machine, try_all};

@@ -35,7 +35,8 @@ impl<'a> FuncMachine<'a> {
         costs: &'a Costs,
     ) -> Result<FuncMachine<'a>, NoMemory>
         requires { length costs.now ≡ length sound.now.blocks }
-        ensures { IfOk result (λ machine. machine ≡ record { func = sound.now; costs = costs.now }) }
+        ensures { IfOk result (λ machine.
+            machine ≡ record { func = sound.now; costs = costs.now }) }
     {
         let runner = Runner::new(alloc, sound)?;
         Ok(FuncMachine { runner, costs })

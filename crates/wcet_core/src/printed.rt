@@ -2,7 +2,7 @@ ghost use Rattle.std.specs.Prelude.{◌≡◌, ◌<◌, ◌∷◌, ◌++◌, [],
 ghost use Rattle.std.specs.List.{flat_map, list_all};
 ghost use Rattle.std.specs.Fmt.{decimal};
 ghost use Rattle.ll_reader.specs.Cursor.{is_run_byte};
-ghost use Rattle.wcet_core.specs.Printed.{arg_text, escaped, exact_text, hex_digit, how_text, is_plain, is_run, label_text, line, name_text, num_text, result_text, text_of, which_text};
+ghost use Rattle.wcet_core.specs.Printed.{arg_text, escaped, exact_text, hex_digit, how_text, is_plain, is_run, label_text, line, name_text, num_text, result_text, answer_text, which_text};
 
 use crate::{Answer, How, Which, Witness};
 use ir_interpreter::RetVal;
@@ -62,7 +62,8 @@ fn push_all_escaped(text: &mut Vec<u8>, name: &[u8]) -> Result<(), NoMemory>
 }
 
 fn push_quoted(text: &mut Vec<u8>, name: &[u8]) -> Result<(), NoMemory>
-    ensures { OnOk result (text.new.items ≡ text.old.items ++ 37 ∷ 34 ∷ (flat_map escaped name.now ++ 34 ∷ [])) }
+    ensures { OnOk result (text.new.items
+        ≡ text.old.items ++ 37 ∷ 34 ∷ (flat_map escaped name.now ++ 34 ∷ [])) }
 {
     push(text, b"%\"")?;
     push_all_escaped(text, name)?;
@@ -181,7 +182,8 @@ fn push_which(text: &mut Vec<u8>, which: Which) -> Result<(), NoMemory>
 }
 
 fn push_cost_line(alloc: Global, text: &mut Vec<u8>, cost: u64) -> Result<(), NoMemory>
-    ensures { OnOk result (text.new.items ≡ text.old.items ++ line (codes "exact " ++ decimal cost)) }
+    ensures { OnOk result (text.new.items
+        ≡ text.old.items ++ line (codes "exact " ++ decimal cost)) }
 {
     push(text, b"exact ")?;
     push_number(alloc, text, cost)?;
@@ -189,7 +191,8 @@ fn push_cost_line(alloc: Global, text: &mut Vec<u8>, cost: u64) -> Result<(), No
 }
 
 fn push_args_line(alloc: Global, text: &mut Vec<u8>, args: &[Arg]) -> Result<(), NoMemory>
-    ensures { OnOk result (text.new.items ≡ text.old.items ++ line (codes "args" ++ flat_map arg_text args.now)) }
+    ensures { OnOk result (text.new.items
+        ≡ text.old.items ++ line (codes "args" ++ flat_map arg_text args.now)) }
 {
     push(text, b"args")?;
     push_args(alloc, text, args)?;
@@ -197,7 +200,8 @@ fn push_args_line(alloc: Global, text: &mut Vec<u8>, args: &[Arg]) -> Result<(),
 }
 
 fn push_path_line(text: &mut Vec<u8>, labels: &[Name]) -> Result<(), NoMemory>
-    ensures { OnOk result (text.new.items ≡ text.old.items ++ line (codes "path" ++ flat_map label_text labels.now)) }
+    ensures { OnOk result (text.new.items
+        ≡ text.old.items ++ line (codes "path" ++ flat_map label_text labels.now)) }
 {
     push(text, b"path")?;
     push_labels(text, labels)?;
@@ -205,7 +209,8 @@ fn push_path_line(text: &mut Vec<u8>, labels: &[Name]) -> Result<(), NoMemory>
 }
 
 fn push_result_line(alloc: Global, text: &mut Vec<u8>, value: RetVal) -> Result<(), NoMemory>
-    ensures { OnOk result (text.new.items ≡ text.old.items ++ line (codes "result " ++ result_text value)) }
+    ensures { OnOk result (text.new.items
+        ≡ text.old.items ++ line (codes "result " ++ result_text value)) }
 {
     push(text, b"result ")?;
     push_result(alloc, text, value)?;
@@ -213,7 +218,8 @@ fn push_result_line(alloc: Global, text: &mut Vec<u8>, value: RetVal) -> Result<
 }
 
 fn push_how_line(text: &mut Vec<u8>, how: How) -> Result<(), NoMemory>
-    ensures { OnOk result (text.new.items ≡ text.old.items ++ line (codes "method " ++ how_text how)) }
+    ensures { OnOk result (text.new.items
+        ≡ text.old.items ++ line (codes "method " ++ how_text how)) }
 {
     push(text, b"method ")?;
     push_how(text, how)?;
@@ -222,7 +228,8 @@ fn push_how_line(text: &mut Vec<u8>, how: How) -> Result<(), NoMemory>
 
 // A line of some words and one of the files.
 fn push_which_line(text: &mut Vec<u8>, words: &[u8], which: Which) -> Result<(), NoMemory>
-    ensures { OnOk result (text.new.items ≡ text.old.items ++ line (words.now ++ which_text which)) }
+    ensures { OnOk result (text.new.items
+        ≡ text.old.items ++ line (words.now ++ which_text which)) }
 {
     push(text, words)?;
     push_which(text, which)?;
@@ -230,7 +237,8 @@ fn push_which_line(text: &mut Vec<u8>, words: &[u8], which: Which) -> Result<(),
 }
 
 fn push_bits_line(alloc: Global, text: &mut Vec<u8>, bits: u32) -> Result<(), NoMemory>
-    ensures { OnOk result (text.new.items ≡ text.old.items ++ line (codes "refused too-wide " ++ decimal bits)) }
+    ensures { OnOk result (text.new.items
+        ≡ text.old.items ++ line (codes "refused too-wide " ++ decimal bits)) }
 {
     push(text, b"refused too-wide ")?;
     push_number(alloc, text, u64::from(bits))?;
@@ -254,7 +262,7 @@ fn push_exact(
 }
 
 fn push_answer(alloc: Global, text: &mut Vec<u8>, answer: &Answer) -> Result<(), NoMemory>
-    ensures { OnOk result (text.new.items ≡ text.old.items ++ text_of answer.now) }
+    ensures { OnOk result (text.new.items ≡ text.old.items ++ answer_text answer.now) }
 {
     match answer {
         Answer::Exact { witness, how } => push_exact(alloc, text, witness, *how),
@@ -272,7 +280,7 @@ fn push_answer(alloc: Global, text: &mut Vec<u8>, answer: &Answer) -> Result<(),
 /// a byte that isn't printable ASCII, a `"` or a `\` is `\` and two upper-case hex digits.
 /// Out of memory prints nothing.
 pub fn text(alloc: Global, answer: &Answer) -> Result<Vec<u8>, NoMemory>
-    ensures { IfOk result (λ text. text.items ≡ text_of answer.now) }
+    ensures { IfOk result (λ text. text.items ≡ answer_text answer.now) }
 {
     let mut text = Vec::new(alloc);
     push_answer(alloc, &mut text, answer)?;

@@ -1,6 +1,6 @@
 ghost use Rattle.std.specs.Prelude.{◌≡◌, ℕ, ◌+◌, ◌^◌, ◌<◌, List, length, sum, vec_len, IsSome, IfSome, IfNone, IfOk, MatchBool};
 ghost use Rattle.wx_base.specs.Args.{AreArguments};
-ghost use Rattle.wcet_core.specs.Trial.{IsFirstBest, Leads, NoneReach, ReachTheSame, place};
+ghost use Rattle.wcet_core.specs.Trial.{IsFirstBest, IsLeader, NoneReach, ReachTheSame, place};
 
 use std::alloc::Global;
 use wx_base::{NoMemory, Sequence};
@@ -34,7 +34,7 @@ pub struct Best {
     pub cost: u64,
 }
 
-/// The best of the arguments tried so far. Where there is no cost, none had a run.
+// The best of the arguments tried so far. Where there is no cost, none had a run.
 #[derive(Drop)]
 struct Leader {
     args: Vec<u32>,
@@ -56,7 +56,8 @@ pub fn try_all<M: Machine>(
 
     ensures best { IfOk result (λ found. IfSome found (λ best.
         IsFirstBest (M.reaches machine.old) widths.now best.args best.cost)) }
-    ensures none { IfOk result (λ found. IfNone found (NoneReach (M.reaches machine.old) widths.now)) }
+    ensures none { IfOk result (λ found.
+        IfNone found (NoneReach (M.reaches machine.old) widths.now)) }
     ensures always { M.always_runs machine.old → IfOk result IsSome }
 
     // The machine is as good for another trial.
@@ -79,16 +80,16 @@ pub fn try_all<M: Machine>(
     }))
 }
 
-/// Tries the arguments and all that come after them.
+// Tries the arguments and all that come after them.
 fn try_from<M: Machine>(machine: &mut M, widths: &[u32], args: &mut [u32], leader: &mut Leader)
     requires widths { M.widths machine.old ≡ widths.now }
     requires bits { sum widths.now < 32 }
     requires are { AreArguments widths.now args.old }
     requires room { vec_len leader.old.args ≡ length args.old }
-    requires leads { Leads (M.reaches machine.old) widths.now (place widths.now args.old)
+    requires leads { IsLeader (M.reaches machine.old) widths.now (place widths.now args.old)
         leader.old.args.items leader.old.cost }
 
-    ensures leads { Leads (M.reaches machine.old) widths.now (2 ^ sum widths.now)
+    ensures leads { IsLeader (M.reaches machine.old) widths.now (2 ^ sum widths.now)
         leader.new.args.items leader.new.cost }
     ensures always { M.always_runs machine.old → IsSome leader.new.cost }
 
@@ -102,16 +103,16 @@ fn try_from<M: Machine>(machine: &mut M, widths: &[u32], args: &mut [u32], leade
     }
 }
 
-/// Runs on the arguments, which lead from then on if they cost more than the leader.
+// Runs on the arguments, which lead from then on if they cost more than the leader.
 fn try_one<M: Machine>(machine: &mut M, args: &[u32], leader: &mut Leader)
     requires are { AreArguments (M.widths machine.old) args.now }
     requires room { vec_len leader.old.args ≡ length args.now }
     requires leads { let widths = M.widths machine.old in
-        Leads (M.reaches machine.old) widths (place widths args.now)
+        IsLeader (M.reaches machine.old) widths (place widths args.now)
         leader.old.args.items leader.old.cost }
 
     ensures leads { let widths = M.widths machine.old in
-        Leads (M.reaches machine.old) widths (place widths args.now + 1)
+        IsLeader (M.reaches machine.old) widths (place widths args.now + 1)
         leader.new.args.items leader.new.cost }
     ensures always { M.always_runs machine.old → IsSome leader.new.cost }
     ensures room { vec_len leader.new.args ≡ length args.now }
@@ -129,7 +130,7 @@ fn try_one<M: Machine>(machine: &mut M, args: &[u32], leader: &mut Leader)
     }
 }
 
-/// Steps to the next arguments. From the last ones it goes back to the first, and answers false.
+// Steps to the next arguments. From the last ones it goes back to the first, and answers false.
 fn advance(args: &mut [u32], widths: &[u32]) -> bool
     requires are { AreArguments widths.now args.old }
     requires bits { sum widths.now < 32 }
@@ -149,7 +150,7 @@ fn advance(args: &mut [u32], widths: &[u32]) -> bool
     false
 }
 
-/// The greatest value of so many bits.
+// The greatest value of so many bits.
 fn last_value(width: u32) -> u32
     requires { width < 32 }
     ensures { result + 1 ≡ 2 ^ width }

@@ -20,7 +20,7 @@ fn are_word_bytes(bytes: &[u8]) -> bool
     bytes.iter().all(|byte| matches!(byte, 33..=126))
 }
 
-/// Whether bytes are a word: one or more of 33 to 126, of which the first is no `-`.
+// Whether bytes are a word: one or more of 33 to 126, of which the first is no `-`.
 fn is_word(word: &Name) -> bool
     ensures { result ≡ is_word word.now }
 {
@@ -34,7 +34,8 @@ fn is_word(word: &Name) -> bool
 /// The job of the words `analyse FUNCTION FILE COSTS`. `None` exactly where there are not four words, the
 /// first is another, or a name is no word.
 pub fn job_of(words: &Words) -> Option<Job<'_>>
-    ensures { option_map (λ job. names_of job.function.now job.file.now job.costs.now) result ≡ job_of words.now }
+    ensures { option_map (λ job. names_of job.function.now job.file.now job.costs.now) result
+        ≡ job_of words.now }
 {
     let [command, function, file, costs] = words.items() else {
         return None;

@@ -1,9 +1,11 @@
-ghost use Rattle.std.specs.Prelude.{◌≡◌, ◌≤◌, ◌<◌, ℕ, List, [], map, sum, length, slice_index_or, All, IfOk};
+ghost use Rattle.std.specs.Prelude.{◌≡◌, ◌≤◌, ◌<◌, ◌^◌, [], map, sum, length, slice_index_or, All, IfOk};
 ghost use Rattle.ll_reader.specs.Rules.{labels_of};
 ghost use Rattle.ir_interpreter.specs.Run.{widths_of};
 ghost use Rattle.wcet_core.specs.Says.{SaysOfWorst};
 ghost use Rattle.wcet_core.specs.Worst.{IsWorst, numbers_of};
+ghost use Rattle.wcet_core.specs.declared.limits.TheConstants.{MOST_BITS};
 
+use crate::limits::MOST_BITS;
 use crate::machine::FuncMachine;
 use crate::{Answer, How, Witness, try_all};
 use ir_interpreter::Runner;
@@ -13,9 +15,6 @@ use wx_base::{Arg, Args, Copied, NoMemory, Path, Sequence};
 
 // The width of each parameter in bits.
 const BYTE: u32 = 8;
-
-// The most bits of which all arguments are tried.
-const MOST_BITS: u32 = 16;
 
 // The bits that the parameters have in all.
 fn bits_of(sound: &Sound) -> u32
@@ -45,7 +44,7 @@ pub(crate) fn worst(alloc: Global, sound: &Sound, costs: &Costs) -> Answer
 // The first of the arguments that cost the most, with their run.
 fn witness(alloc: Global, sound: &Sound, costs: &Costs) -> Result<Witness, NoMemory>
     requires costs { length costs.now ≡ length sound.now.blocks }
-    requires bits { sum (widths_of sound.now) ≤ 16 }
+    requires bits { sum (widths_of sound.now) ≤ MOST_BITS }
     ensures { IfOk result (IsWorst sound.now costs.now) }
 {
     let widths = vec![in alloc; BYTE; sound.func().params.len()]?;
@@ -63,6 +62,7 @@ fn witness(alloc: Global, sound: &Sound, costs: &Costs) -> Result<Witness, NoMem
 
 // The arguments of these numbers.
 fn args_of(alloc: Global, numbers: &[u32]) -> Result<Args, NoMemory>
+    requires { All (λ number. number < 2 ^ 8) numbers.now }
     ensures numbers { IfOk result (λ args. numbers_of args ≡ numbers.now) }
     ensures widths { IfOk result (λ args. map (λ arg. arg.width) args ≡ map (λ _. 8) numbers.now) }
 {
@@ -79,7 +79,8 @@ fn args_of(alloc: Global, numbers: &[u32]) -> Result<Args, NoMemory>
 // The labels of the blocks at these places.
 fn labels_at(alloc: Global, sound: &Sound, places: &[u32]) -> Result<Path, NoMemory>
     requires { All (λ place. place < length sound.now.blocks) places.now }
-    ensures { IfOk result (λ path. path ≡ map (λ place. slice_index_or (labels_of sound.now) place []) places.now) }
+    ensures { IfOk result (λ path.
+        path ≡ map (λ place. slice_index_or (labels_of sound.now) place []) places.now) }
 {
     let mut path = Sequence::new(alloc);
     let blocks = sound.func().blocks.items();

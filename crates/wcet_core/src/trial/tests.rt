@@ -1,14 +1,14 @@
 ghost use Rattle.std.specs.Prelude.{◌≡◌, ◌<◌, ◌==◌, ◌&&◌, find, slice_index, sum, Some, IfOk};
 ghost use Rattle.std.specs.Option.{option_map};
 
-use super::{Best, Machine, try_all};
+use super::{Machine, try_all};
 use std::alloc::Global;
 use std::test::Fail;
 
-/// A run: its first argument, its second one and its cost.
+// A run: its first argument, its second one and its cost.
 type Run = (u32, u32, u64);
 
-/// A function of at most two parameters, by its runs. An argument that it lacks counts as 0.
+// A function of at most two parameters, by its runs. An argument that it lacks counts as 0.
 #[derive(Drop)]
 struct Listed {
     widths: Vec<u32>,
@@ -36,7 +36,7 @@ fn argument(args: &[u32], at: usize) -> u32
     args.get(at).copied().unwrap_or(0)
 }
 
-/// The cost of the first of the runs that has these arguments.
+// The cost of the first of the runs that has these arguments.
 fn cost_of(runs: &[Run], args: &[u32]) -> Option<u64>
     ensures { result ≡ option_map (λ run. run.2)
         (find (λ run. (run.0 == slice_index args.now 0) && (run.1 == slice_index args.now 1)) runs.now) }
@@ -56,11 +56,45 @@ fn with_runs(alloc: Global, widths: &[u32], runs: &[Run]) -> Result<Listed, Fail
     })
 }
 
-fn best_of(alloc: Global, widths: &[u32], runs: &[Run]) -> Result<Option<Best>, Fail>
+// The best arguments, padded by 0, how many they are, and their cost.
+fn found(alloc: Global, widths: &[u32], runs: &[Run]) -> Result<Option<Found>, Fail>
     requires { sum widths.now < 32 }
 {
     let mut machine = with_runs(alloc, widths, runs)?;
-    Ok(try_all(alloc, &mut machine, widths)?)
+    Ok(try_all(alloc, &mut machine, widths)?.map(|best| {
+        let args = best.args.items();
+        (argument(args, 0), argument(args, 1), args.len(), best.cost)
+    }))
+}
+
+type Found = (u32, u32, usize, u64);
+
+#[test]
+fn the_first_of_the_best_is_found(rt: HostRuntime) -> Result<(), Fail> {
+    let alloc = rt.alloc();
+    let all = [
+        // The first of those that cost the most, where the last argument varies fastest.
+        found(alloc, &[2], &[(0, 0, 3), (1, 0, 8), (2, 0, 8), (3, 0, 5)])?,
+        found(alloc, &[1, 2], &[(1, 0, 6), (0, 3, 6)])?,
+        // No run at all, or none on arguments of these widths.
+        found(alloc, &[1, 1], &[])?,
+        found(alloc, &[1], &[(2, 0, 9)])?,
+        found(alloc, &[], &[])?,
+        // No parameters have one list of arguments, and no bits one value.
+        found(alloc, &[], &[(0, 0, 0)])?,
+        found(alloc, &[0, 1], &[(0, 1, 4), (1, 1, 9)])?,
+    ];
+    let expected = [
+        Some((1, 0, 1, 8)),
+        Some((0, 3, 2, 6)),
+        None,
+        None,
+        None,
+        Some((0, 0, 0, 0)),
+        Some((0, 1, 2, 4)),
+    ];
+    assert_eq!(rt; all, expected);
+    Ok(())
 }
 
 #[test]
@@ -68,49 +102,7 @@ fn each_of_the_arguments_is_run_once(rt: HostRuntime) -> Result<(), Fail> {
     let widths = [10, 10];
     let mut machine = with_runs(rt.alloc(), &widths, &[(5, 0, 1), (1023, 1023, 2)])?;
     let best = try_all(rt.alloc(), &mut machine, &widths)?.ok_or("no run")?;
-    assert_eq!(rt; best.args.items(), [1023, 1023].as_slice());
-    assert_eq!(rt; best.cost, 2);
-    assert_eq!(rt; machine.calls, 1 << 20);
-    Ok(())
-}
-
-#[test]
-fn the_first_of_the_best_is_named(rt: HostRuntime) -> Result<(), Fail> {
-    let runs = [(0, 0, 3), (1, 0, 8), (2, 0, 8), (3, 0, 5)];
-    let best = best_of(rt.alloc(), &[2], &runs)?.ok_or("no run")?;
-    assert_eq!(rt; best.args.items(), [1].as_slice());
-    assert_eq!(rt; best.cost, 8);
-    Ok(())
-}
-
-#[test]
-fn the_last_argument_varies_fastest(rt: HostRuntime) -> Result<(), Fail> {
-    let best = best_of(rt.alloc(), &[1, 2], &[(1, 0, 6), (0, 3, 6)])?.ok_or("no run")?;
-    assert_eq!(rt; best.args.items(), [0, 3].as_slice());
-    assert_eq!(rt; best.cost, 6);
-    Ok(())
-}
-
-#[test]
-fn no_run_gives_none(rt: HostRuntime) -> Result<(), Fail> {
-    assert!(rt; best_of(rt.alloc(), &[1, 1], &[])?.is_none());
-    assert!(rt; best_of(rt.alloc(), &[1], &[(2, 0, 9)])?.is_none());
-    assert!(rt; best_of(rt.alloc(), &[], &[])?.is_none());
-    Ok(())
-}
-
-#[test]
-fn no_parameters_have_one_list_of_arguments(rt: HostRuntime) -> Result<(), Fail> {
-    let best = best_of(rt.alloc(), &[], &[(0, 0, 0)])?.ok_or("no run")?;
-    assert_eq!(rt; best.args.len(), 0);
-    assert_eq!(rt; best.cost, 0);
-    Ok(())
-}
-
-#[test]
-fn no_bits_have_one_value(rt: HostRuntime) -> Result<(), Fail> {
-    let best = best_of(rt.alloc(), &[0, 1], &[(0, 1, 4), (1, 1, 9)])?.ok_or("no run")?;
-    assert_eq!(rt; best.args.items(), [0, 1].as_slice());
-    assert_eq!(rt; best.cost, 4);
+    let args = best.args.items();
+    assert!(rt; args == [1023, 1023].as_slice() && best.cost == 2 && machine.calls == 1 << 20);
     Ok(())
 }

@@ -1,7 +1,7 @@
 use Rattle.std.proofs.Common.{◌≡◌, ◌+◌, ◌-◌, ◌^◌, length, drop, sum, refl, subst, arith}
 use Rattle.std.proofs.lemmas.List.{drop_all}
 use Rattle.wcet_core.specs.Trial.{place}
-use Rattle.wcet_core.proofs.Places.{AreArguments-length, AreArguments-get_or, AreArguments-set, place-below, place-raised, place-carried}
+use Rattle.wcet_core.proofs.PlaceLaws.{AreArguments-length, AreArguments-get_or, AreArguments-set, place-below, place-raised, place-carried}
 use Rattle.wcet_core.proofs.trial.advance.Goals as goal
 
 pub loop-i-init : goal.loop-i-init

@@ -1,8 +1,8 @@
 use Rattle.std.proofs.Common.{◌≡◌, ◌^◌, ◌∙◌, sum, sym, subst, ap, arith}
 use Rattle.wx_base.specs.Args.{AreArguments}
-use Rattle.wcet_core.specs.Trial.{Leads, place}
-use Rattle.wcet_core.proofs.Places.{AreArguments-zeros, place-zeros}
-use Rattle.wcet_core.proofs.Leaders.{Leads-all, Leads-none}
+use Rattle.wcet_core.specs.Trial.{IsLeader, place}
+use Rattle.wcet_core.proofs.PlaceLaws.{AreArguments-zeros, place-zeros}
+use Rattle.wcet_core.proofs.LeaderLaws.{IsLeader-all, IsLeader-none}
 use Rattle.wcet_core.proofs.trial.try_all.Goals as goal
 
 pub try_from-requires-clause-are : goal.try_from-requires-clause-are
@@ -15,11 +15,11 @@ try_from-requires-clause-leads g c =
 
 pub returns-in_default-clause-none : goal.returns-in_default-clause-none
 returns-in_default-clause-none g c =
-    Leads-none (g.M.Machine.reaches c.args.machine.now) c.args.widths.now c.try_from.new.leader.args.items
-    (subst (Leads (g.M.Machine.reaches c.args.machine.now) c.args.widths.now (2 ^ sum c.args.widths.now) c.try_from.new.leader.args.items) c.in_default.is c.try_from.ensures.leads)
+    IsLeader-none (g.M.Machine.reaches c.args.machine.now) c.args.widths.now c.try_from.new.leader.args.items
+    (subst (IsLeader (g.M.Machine.reaches c.args.machine.now) c.args.widths.now (2 ^ sum c.args.widths.now) c.try_from.new.leader.args.items) c.in_default.is c.try_from.ensures.leads)
 
 pub returns-clause-best : goal.returns-clause-best
 returns-clause-best g c =
     rw c.from_vec.ensures
-    (Leads-all (g.M.Machine.reaches c.args.machine.now) c.args.widths.now c.try_from.new.leader.args.items c.in-Some.cost
-    (subst (Leads (g.M.Machine.reaches c.args.machine.now) c.args.widths.now (2 ^ sum c.args.widths.now) c.try_from.new.leader.args.items) c.in-Some.is c.try_from.ensures.leads))
+    (IsLeader-all (g.M.Machine.reaches c.args.machine.now) c.args.widths.now c.try_from.new.leader.args.items c.in-Some.cost
+    (subst (IsLeader (g.M.Machine.reaches c.args.machine.now) c.args.widths.now (2 ^ sum c.args.widths.now) c.try_from.new.leader.args.items) c.in-Some.is c.try_from.ensures.leads))

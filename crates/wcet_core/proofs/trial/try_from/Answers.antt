@@ -1,5 +1,5 @@
 use Rattle.std.proofs.Common.{arith}
-use Rattle.wcet_core.proofs.Places.{place-below}
+use Rattle.wcet_core.proofs.PlaceLaws.{place-below}
 use Rattle.wcet_core.proofs.trial.try_from.Goals as goal
 
 pub loop-machine-smaller : goal.loop-machine-smaller

@@ -1,4 +1,4 @@
-use Rattle.wcet_core.proofs.Bytes.{sum_bytes}
+use Rattle.wcet_core.proofs.ByteLaws.{sum_bytes}
 use Rattle.wcet_core.proofs.worst.bits_of.Goals as goal
 
 pub returns : goal.returns

@@ -1,6 +1,7 @@
-use Rattle.std.proofs.Common.{◌≡◌, ℕ, map, sum, sym, ◌∙◌, ap, arith}
+use Rattle.std.proofs.Common.{◌≡◌, ◌<◌, ◌^◌, ℕ, map, sum, sym, ◌∙◌, ap, subst, arith}
+use Rattle.std.specs.List.{All}
 use Rattle.ir_interpreter.specs.Run.{widths_of}
-use Rattle.wcet_core.proofs.Bytes.{widths_are}
+use Rattle.wcet_core.proofs.ByteLaws.{all_bytes, widths_are}
 use Rattle.wcet_core.proofs.WorstLaws.{best_found, same_labels, worst}
 use Rattle.wcet_core.proofs.worst.witness.Goals as goal
 
@@ -14,6 +15,12 @@ try_all-requires-clause-bits c =
     let same = widths_are c.args.sound.now c.func.result.now c.len.result c.deref.result.now c.func.ensures.func c.len.ensures (c.deref.ensures.value ∙ c.in_ok-widths.ensures.items_if_clones_equal (λ y is. is)) in
     let sums : sum (widths_of c.args.sound.now) ≡ sum c.deref.result.now = ap sum same in
     omega (arith, sums, c.requires.bits)
+
+pub args_of-requires : goal.args_of-requires
+args_of-requires c =
+    let wide = widths_are c.args.sound.now c.func.result.now c.len.result c.deref.result.now c.func.ensures.func c.len.ensures (c.deref.ensures.value ∙ c.in_ok-widths.ensures.items_if_clones_equal (λ y is. is)) in
+    let best = best_found c.args.sound.now c.args.costs.now c.deref.result.now c.in_ok-machine.machine c.in_ok-try_all.field-0 c.unwrap-best.result c.in_ok-machine.ensures (sym wide) c.unwrap-best.ensures c.in_ok-try_all.ensures.best in
+    subst (All (λ arg. arg < 2 ^ 8)) (sym c.items-2.ensures) (all_bytes c.args.sound.now.params c.unwrap-best.result.args best.are)
 
 pub returns : goal.returns
 returns c =

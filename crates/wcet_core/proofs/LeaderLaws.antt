@@ -2,8 +2,8 @@
 use Rattle.std.proofs.Common.{◌≡◌, ◌≢◌, ℕ, ◌+◌, ◌^◌, ◌<◌, ◌≤◌, List, Option, Some, None, sum, refl, subst, inl, inr, arith}
 use Rattle.std.proofs.lemmas.Bool.{cases_lt}
 use Rattle.wx_base.specs.Args.{AreArguments}
-use Rattle.wcet_core.specs.Trial.{IsFirstBest, IsFirstBestBelow, Leads, place}
-use Rattle.wcet_core.proofs.Places.{place-below, place-injective, place-ComesBefore}
+use Rattle.wcet_core.specs.Trial.{IsFirstBest, IsFirstBestBelow, IsLeader, place}
+use Rattle.wcet_core.proofs.PlaceLaws.{place-below, place-injective, place-ComesBefore}
 
 module _ (reaches : List ℕ → ℕ → Type 0) (widths : List ℕ) where
   -- what holds of the arguments before these, and of these, holds of those at one more place
@@ -18,7 +18,7 @@ module _ (reaches : List ℕ → ℕ → Type 0) (widths : List ℕ) where
 
   -- a bound on all that were tried is one on these arguments too
   under : (args leader : List ℕ) (most : ℕ) → AreArguments widths args → ((n : ℕ) → reaches args n → n ≤ most)
-      → Leads reaches widths (place widths args) leader (Some most) → Leads reaches widths (place widths args + 1) leader (Some most)
+      → IsLeader reaches widths (place widths args) leader (Some most) → IsLeader reaches widths (place widths args + 1) leader (Some most)
   under args leader most are bound leads = record {
     are = leads.are;
     reached = leads.reached;
@@ -27,11 +27,11 @@ module _ (reaches : List ℕ → ℕ → Type 0) (widths : List ℕ) where
   }
 
   -- arguments that cost no more than the leader change nothing
-  pub Leads-kept : (args leader : List ℕ) (most : Option ℕ) (cost : ℕ) → AreArguments widths args → ((n : ℕ) → reaches args n → n ≤ cost)
+  pub IsLeader-kept : (args leader : List ℕ) (most : Option ℕ) (cost : ℕ) → AreArguments widths args → ((n : ℕ) → reaches args n → n ≤ cost)
       → most ≢ None → ((lead : ℕ) → most ≡ Some lead → cost ≤ lead)
-      → Leads reaches widths (place widths args) leader most → Leads reaches widths (place widths args + 1) leader most
-  Leads-kept args leader None cost are bound some less leads = absurd (some refl)
-  Leads-kept args leader (Some most) cost are bound some less leads =
+      → IsLeader reaches widths (place widths args) leader most → IsLeader reaches widths (place widths args + 1) leader most
+  IsLeader-kept args leader None cost are bound some less leads = absurd (some refl)
+  IsLeader-kept args leader (Some most) cost are bound some less leads =
       under args leader most are
       (λ n reach.
       let within : n ≤ cost = bound n reach in
@@ -39,11 +39,11 @@ module _ (reaches : List ℕ → ℕ → Type 0) (widths : List ℕ) where
       omega arith) leads
 
   -- nor do arguments with no run
-  pub Leads-no_run : (args leader : List ℕ) (most : Option ℕ) → AreArguments widths args → ((n : ℕ) → reaches args n → ⊥)
-      → Leads reaches widths (place widths args) leader most → Leads reaches widths (place widths args + 1) leader most
-  Leads-no_run args leader None are none leads =
+  pub IsLeader-no_run : (args leader : List ℕ) (most : Option ℕ) → AreArguments widths args → ((n : ℕ) → reaches args n → ⊥)
+      → IsLeader reaches widths (place widths args) leader most → IsLeader reaches widths (place widths args + 1) leader most
+  IsLeader-no_run args leader None are none leads =
       λ others n also below. below_more args (λ others. (n : ℕ) → reaches others n → ⊥) are (λ others also below n. leads others n also below) none others also below n
-  Leads-no_run args leader (Some most) are none leads = under args leader most are (λ n reach. absurd (none n reach)) leads
+  IsLeader-no_run args leader (Some most) are none leads = under args leader most are (λ n reach. absurd (none n reach)) leads
 
   -- arguments that cost more than all before them are the first of the best
   taken : (args : List ℕ) (cost : ℕ) → AreArguments widths args → reaches args cost → ((n : ℕ) → reaches args n → n ≤ cost)
@@ -57,11 +57,11 @@ module _ (reaches : List ℕ → ℕ → Type 0) (widths : List ℕ) where
   }
 
   -- arguments that cost more than the leader lead
-  pub Leads-better : (args leader : List ℕ) (most : Option ℕ) (cost : ℕ) → AreArguments widths args → reaches args cost → ((n : ℕ) → reaches args n → n ≤ cost)
+  pub IsLeader-better : (args leader : List ℕ) (most : Option ℕ) (cost : ℕ) → AreArguments widths args → reaches args cost → ((n : ℕ) → reaches args n → n ≤ cost)
       → ((lead : ℕ) → most ≡ Some lead → lead < cost)
-      → Leads reaches widths (place widths args) leader most → IsFirstBestBelow reaches widths (place widths args + 1) args cost
-  Leads-better args leader None cost are reached bound more leads = taken args cost are reached bound (λ others n also below reach. absurd (leads others n also below reach))
-  Leads-better args leader (Some most) cost are reached bound more leads =
+      → IsLeader reaches widths (place widths args) leader most → IsFirstBestBelow reaches widths (place widths args + 1) args cost
+  IsLeader-better args leader None cost are reached bound more leads = taken args cost are reached bound (λ others n also below reach. absurd (leads others n also below reach))
+  IsLeader-better args leader (Some most) cost are reached bound more leads =
       taken args cost are reached bound
       (λ others n also below reach.
       let under : n ≤ most = leads.at_most others n also below reach in
@@ -69,8 +69,8 @@ module _ (reaches : List ℕ → ℕ → Type 0) (widths : List ℕ) where
       omega arith)
 
   -- after all arguments the leader is the first of the best
-  pub Leads-all : (args : List ℕ) (cost : ℕ) → Leads reaches widths (2 ^ sum widths) args (Some cost) → IsFirstBest reaches widths args cost
-  Leads-all args cost leads = record {
+  pub IsLeader-all : (args : List ℕ) (cost : ℕ) → IsLeader reaches widths (2 ^ sum widths) args (Some cost) → IsFirstBest reaches widths args cost
+  IsLeader-all args cost leads = record {
     are = leads.are;
     reached = leads.reached;
     at_most = λ others n also. leads.at_most others n also (place-below widths others also);
@@ -78,5 +78,5 @@ module _ (reaches : List ℕ → ℕ → Type 0) (widths : List ℕ) where
   }
 
   -- without a leader nothing was reached
-  pub Leads-none : (args : List ℕ) → Leads reaches widths (2 ^ sum widths) args None → (others : List ℕ) (n : ℕ) → AreArguments widths others → reaches others n → ⊥
-  Leads-none args leads others n also = leads others n also (place-below widths others also)
+  pub IsLeader-none : (args : List ℕ) → IsLeader reaches widths (2 ^ sum widths) args None → (others : List ℕ) (n : ℕ) → AreArguments widths others → reaches others n → ⊥
+  IsLeader-none args leads others n also = leads others n also (place-below widths others also)

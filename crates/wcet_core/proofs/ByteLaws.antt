@@ -1,5 +1,7 @@
 -- Parameters of eight bits each.
-use Rattle.std.proofs.Common.{◌≡◌, ℕ, ◌+◌, ◌*◌, List, [], ◌∷◌, length, map, sum, replicate, refl, sym, ◌∙◌, ap, arith}
+use Rattle.std.proofs.Common.{◌≡◌, ◌<◌, ℕ, ◌+◌, ◌*◌, ◌^◌, List, [], ◌∷◌, length, map, sum, replicate, refl, sym, ◌∙◌, ap, arith}
+use Rattle.std.specs.List.{All}
+use Rattle.std.proofs.lemmas.List.Elements.{All-nil, All-cons}
 use Rattle.std.proofs.lemmas.List.Sums.{sum_by-cons}
 use Rattle.ll_reader.specs.declared.first.tree.Func.{Func}
 use Rattle.ir_interpreter.specs.Run.{widths_of}
@@ -29,3 +31,10 @@ bytes_each [] [] are = refl
 bytes_each [] (arg ∷ args) are = absurd are
 bytes_each (param ∷ params) [] are = absurd are
 bytes_each (param ∷ params) (arg ∷ args) are = ap (λ (widths : List ℕ). 8 ∷ widths) (bytes_each params args are.1)
+
+-- and each is a byte
+pub all_bytes : (params : List (List ℕ)) (args : List ℕ) → AreArguments (bytes params) args → All (λ arg. arg < 2 ^ 8) args
+all_bytes [] [] are = All-nil (λ arg. arg < 2 ^ 8)
+all_bytes [] (arg ∷ args) are = absurd are
+all_bytes (param ∷ params) [] are = absurd are
+all_bytes (param ∷ params) (arg ∷ args) are = All-cons (λ arg. arg < 2 ^ 8) arg args are.0 (all_bytes params args are.1)
