@@ -215,7 +215,3 @@ pub whole_name : (inner name rest : List ℕ) → (whole : List ℕ) × StandsFo
 whole_name inner name rest whole so_far ends =
     let same = one_name inner name rest whole.0 [] so_far ends whole.1 refl in
     subst (λ (x : List ℕ). StandsFor inner name x) same.1 so_far
-
-pub made_name : {E : Type 0} (inner bytes lent : List ℕ) (made : Result (List ℕ) E) → lent ≡ bytes → StandsFor inner bytes [] → IfOk made (λ name. name ≡ lent) → IfOk made (λ name. StandsFor inner name [])
-made_name inner bytes lent (Ok name) same stands is = subst (λ (x : List ℕ). StandsFor inner x []) (sym (is ∙ same)) stands
-made_name inner bytes lent (Err e) same stands is = tt

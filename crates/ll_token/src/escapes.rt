@@ -57,5 +57,5 @@ pub fn unescaped(alloc: Global, inner: &[u8]) -> Result<Name, NoMemory>
         bytes.push(byte)?;
         rest = after;
     }
-    Name::new(alloc, &bytes)
+    Ok(Name::from_vec(bytes))
 }

@@ -1,168 +1,162 @@
-use crate::{FaultKind, Token, TokenFault, TokenKind, local_name, name_of, tokens};
+use crate::{Token, TokenKind, local_name, name_of, tokens};
+use std::alloc::Global;
+use std::fmt::Write;
 use std::test::Fail;
+use wx_base::Name;
 
-macro_rules! token {
-    ($kind:ident, $start:literal, $end:literal, $line:literal) => {
-        Token {
-            kind: TokenKind::$kind,
-            start: $start,
-            end: $end,
-            line: $line,
-        }
-    };
-}
-
-macro_rules! fault {
-    ($kind:ident, $place:literal, $line:literal) => {
-        TokenFault {
-            kind: FaultKind::$kind,
-            place: $place,
-            line: $line,
-        }
-    };
-}
-
-#[test]
-fn texts_have_these_tokens(rt: HostRuntime) -> Result<(), Fail> {
-    let table: [(&[u8], &[Token]); 24] = [
-        (b"", &[]),
-        (b"\n", &[]),
-        (b"%12", &[token!(Local, 0, 3, 1)]),
-        (b"%\"12\"", &[token!(Local, 0, 5, 1)]),
-        (b"@\"\\\\\"", &[token!(Global, 0, 5, 1)]),
-        (b"-", &[token!(Word, 0, 1, 1)]),
-        (b"--1", &[token!(Word, 0, 3, 1)]),
-        (b"-0", &[token!(Number, 0, 2, 1)]),
-        (b"00", &[token!(Number, 0, 2, 1)]),
-        (b"1a", &[token!(Word, 0, 2, 1)]),
-        (b"a.b", &[token!(Word, 0, 3, 1)]),
-        (b"a:", &[token!(Label, 0, 2, 1)]),
-        (b"a :", &[token!(Word, 0, 1, 1), token!(Mark, 2, 3, 1)]),
-        (b"%a:", &[token!(Local, 0, 2, 1), token!(Mark, 2, 3, 1)]),
-        (b"\"a b\":", &[token!(Label, 0, 6, 1)]),
-        (b"\"\"", &[token!(String, 0, 2, 1)]),
-        (b"!", &[token!(Meta, 0, 1, 1)]),
-        (b"!dbg", &[token!(Meta, 0, 4, 1)]),
-        (b"#0", &[token!(Hash, 0, 2, 1)]),
-        (b"#dbg_value", &[token!(Hash, 0, 10, 1)]),
-        (
-            b"\";\" ; \"\n!",
-            &[token!(String, 0, 3, 1), token!(Meta, 8, 9, 2)],
-        ),
-        (
-            b"a;\n;\n\nb",
-            &[token!(Word, 0, 1, 1), token!(Word, 6, 7, 4)],
-        ),
-        (
-            b"a\r\n\tb;",
-            &[token!(Word, 0, 1, 1), token!(Word, 4, 5, 2)],
-        ),
-        (
-            b"(*|",
-            &[
-                token!(Mark, 0, 1, 1),
-                token!(Mark, 1, 2, 1),
-                token!(Mark, 2, 3, 1),
-            ],
-        ),
-    ];
-    for (text, want) in table {
-        assert!(rt; text.len() < 100);
-        match tokens(rt.alloc(), text, 1)? {
-            Ok(found) => assert_eq!(rt; found.items(), want, "{text:?}"),
-            Err(fault) => panic!(rt; "{text:?} {fault:?}"),
-        }
+// The tokens of a text as ` kind start end line;` each, or its first fault as ` kind at place line`.
+fn listed(alloc: Global, text: &[u8], first_line: u32) -> Result<String, Fail> {
+    let mut list = String::new(alloc);
+    if text.len() > 100 || first_line > 100 {
+        return Ok(list);
     }
-    Ok(())
-}
-
-#[test]
-fn texts_have_these_first_faults(rt: HostRuntime) -> Result<(), Fail> {
-    let table: [(&[u8], TokenFault); 18] = [
-        (b"%", fault!(BadByte, 0, 7)),
-        (b"a\n @ b", fault!(BadByte, 3, 8)),
-        (b"%\"\"", fault!(BadByte, 0, 7)),
-        (b"\"\":", fault!(BadByte, 0, 7)),
-        (b"#", fault!(BadByte, 0, 7)),
-        (b"a\0", fault!(BadByte, 1, 7)),
-        (b"\xFF", fault!(BadByte, 0, 7)),
-        (b";\n\x0B", fault!(BadByte, 2, 8)),
-        (b"x \"a\ny\"", fault!(OpenString, 2, 7)),
-        (b"\n\"a", fault!(OpenString, 1, 8)),
-        (b"@\"a", fault!(OpenString, 0, 7)),
-        (b"\"\\zz\"", fault!(BadEscape, 1, 7)),
-        (b"\"\\zz\n\"", fault!(OpenString, 0, 7)),
-        (b"%\"a\\4\"", fault!(BadEscape, 3, 7)),
-        (b"\"\\\\\\\"", fault!(BadEscape, 3, 7)),
-        (b"\"ab\\g1\":", fault!(BadEscape, 3, 7)),
-        (b"% \"\\z\"", fault!(BadByte, 0, 7)),
-        (b"a \"\\z\" %", fault!(BadEscape, 3, 7)),
-    ];
-    for (text, want) in table {
-        assert!(rt; text.len() < 100);
-        match tokens(rt.alloc(), text, 7)? {
-            Ok(found) => panic!(rt; "{text:?} {found:?}"),
-            Err(fault) => assert_eq!(rt; fault, want, "{text:?}"),
+    match tokens(alloc, text, first_line)? {
+        Ok(found) => {
+            for token in found.items() {
+                let Token {
+                    kind,
+                    start,
+                    end,
+                    line,
+                } = *token;
+                write!(list, " {kind:?} {start} {end} {line};")?;
+            }
         }
+        Err(fault) => write!(list, " {:?} at {} {}", fault.kind, fault.place, fault.line)?,
     }
-    Ok(())
+    Ok(list)
 }
 
-#[test]
-fn tokens_hold_these_names(rt: HostRuntime) -> Result<(), Fail> {
-    let table: [(&[u8], &[u8]); 9] = [
-        (b"%12", b"12"),
-        (b"%\"12\"", b"12"),
-        (b"%\"a\\5Cb\"", b"a\\b"),
-        (b"@\"\\\\\"", b"\\"),
-        (b"@a.b$c", b"a.b$c"),
-        (b"entry:", b"entry"),
-        (b"\"a b\":", b"a b"),
-        (b"\"\\00\\fF\"", b"\0\xFF"),
-        (b"\"\"", b""),
-    ];
-    for (text, want) in table {
-        assert!(rt; text.len() < 100);
-        let Ok(found) = tokens(rt.alloc(), text, 1)? else {
-            panic!(rt; "{text:?}");
+// A text, and what is listed for it where its first line is 7. In the text `~` stands for LF, `^` for CR, `'` for tab, `&` for NUL,
+// `+` for VT and `?` for the byte 255.
+const LISTED: &str = r#" =>
+~ =>
+%12 => Local 0 3 7;
+%"12" => Local 0 5 7;
+@"\\" => Global 0 5 7;
+- => Word 0 1 7;
+--1 => Word 0 3 7;
+-0 => Number 0 2 7;
+00 => Number 0 2 7;
+1a => Word 0 2 7;
+a.b => Word 0 3 7;
+a: => Label 0 2 7;
+a : => Word 0 1 7; Mark 2 3 7;
+%a: => Local 0 2 7; Mark 2 3 7;
+"a b": => Label 0 6 7;
+"" => String 0 2 7;
+! => Meta 0 1 7;
+!dbg => Meta 0 4 7;
+#0 => Hash 0 2 7;
+#dbg_value => Hash 0 10 7;
+";" ; "~! => String 0 3 7; Meta 8 9 8;
+a;~;~~b => Word 0 1 7; Word 6 7 10;
+a^~'b; => Word 0 1 7; Word 4 5 8;
+(*| => Mark 0 1 7; Mark 1 2 7; Mark 2 3 7;
+% => BadByte at 0 7
+a~ @ b => BadByte at 3 8
+%"" => BadByte at 0 7
+"": => BadByte at 0 7
+# => BadByte at 0 7
+a& => BadByte at 1 7
+? => BadByte at 0 7
+;~+ => BadByte at 2 8
+x "a~y" => OpenString at 2 7
+~"a => OpenString at 1 8
+@"a => OpenString at 0 7
+"\zz" => BadEscape at 1 7
+"\zz~" => OpenString at 0 7
+%"a\4" => BadEscape at 3 7
+"\\\" => BadEscape at 3 7
+"ab\g1": => BadEscape at 3 7
+% "\z" => BadByte at 0 7
+a "\z" % => BadEscape at 3 7"#;
+
+// The bytes that a text of `LISTED` stands for.
+fn plain(alloc: Global, text: &str) -> Result<Vec<u8>, Fail> {
+    let mut bytes = Vec::new(alloc);
+    for byte in text.as_bytes() {
+        let byte = match *byte {
+            b'~' => b'\n',
+            b'^' => b'\r',
+            b'\'' => b'\t',
+            b'&' => 0,
+            b'+' => 11,
+            b'?' => 255,
+            other => other,
         };
-        assert_eq!(rt; found.len(), 1, "{text:?}");
-        let token = found.items()[0];
-        match token.kind {
-            TokenKind::Local | TokenKind::Global | TokenKind::Label | TokenKind::String => {
-                let name = name_of(rt.alloc(), text, &token)?;
-                assert_eq!(rt; name.bytes(), want, "{text:?}");
-            }
-            other => panic!(rt; "{text:?} {other:?}"),
-        }
+        bytes.push(byte)?;
     }
-    Ok(())
+    Ok(bytes)
 }
 
 #[test]
-fn local_names_are_whole_texts(rt: HostRuntime) -> Result<(), Fail> {
-    let table: [(&[u8], Option<&[u8]>); 9] = [
-        (b"%x", Some(b"x")),
-        (b"%\"a b\"", Some(b"a b")),
-        (b"%x ", None),
-        (b" %x", None),
-        (b"%", None),
-        (b"%\"\"", None),
-        (b"%\"\\z\"", None),
-        (b"@x", None),
-        (b"", None),
-    ];
-    for (text, want) in table {
-        let found = local_name(rt.alloc(), text)?;
-        match want {
-            Some(bytes) => {
-                assert!(rt; found.is_some(), "{text:?}");
-                if let Some(name) = found {
-                    assert_eq!(rt; name.bytes(), bytes, "{text:?}");
-                }
-            }
-            None => assert!(rt; found.is_none(), "{text:?}"),
+fn texts_have_these_tokens_or_this_first_fault(rt: HostRuntime) -> Result<(), Fail> {
+    let mut seen: u64 = 0;
+    for line in LISTED.lines() {
+        let (text, want) = line.split_once(" =>").ok_or("no arrow")?;
+        let found = listed(rt.alloc(), &plain(rt.alloc(), text)?, 7)?;
+        assert!(rt; found.as_str() == want, "{line}: {found}");
+        seen = seen.saturating_add(1);
+    }
+    assert!(rt; seen == 42);
+    Ok(())
+}
+
+// The name that the one token of a text holds.
+fn named(alloc: Global, text: &[u8]) -> Result<Option<Name>, Fail> {
+    if text.len() > 100 {
+        return Ok(None);
+    }
+    let Ok(found) = tokens(alloc, text, 1)? else {
+        return Ok(None);
+    };
+    if found.len() != 1 {
+        return Ok(None);
+    }
+    let token = found.items()[0];
+    match token.kind {
+        TokenKind::Local | TokenKind::Global | TokenKind::Label | TokenKind::String => {
+            Ok(Some(name_of(alloc, text, &token)?))
         }
+        _ => Ok(None),
+    }
+}
+
+#[test]
+fn tokens_hold_names_and_local_names_are_whole_texts(rt: HostRuntime) -> Result<(), Fail> {
+    // The name of a text's one token, and whether the whole text is a local name.
+    let table: [(&[u8], &[u8], bool); 18] = [
+        (b"%12", b"12", true),
+        (b"%\"12\"", b"12", true),
+        (b"%\"a\\5Cb\"", b"a\\b", true),
+        (b"@\"\\\\\"", b"\\", false),
+        (b"@a.b$c", b"a.b$c", false),
+        (b"entry:", b"entry", false),
+        (b"\"a b\":", b"a b", false),
+        (b"\"\\00\\fF\"", b"\0\xFF", false),
+        (b"\"\"", b"", false),
+        (b"%x", b"x", true),
+        (b"%\"a b\"", b"a b", true),
+        (b"%x ", b"x", false),
+        (b" %x", b"x", false),
+        (b"@x", b"x", false),
+        (b"%", b"none", false),
+        (b"%\"\"", b"none", false),
+        (b"%\"\\z\"", b"none", false),
+        (b"", b"none", false),
+    ];
+    for (text, want, is_local) in table {
+        let name = named(rt.alloc(), text)?;
+        let local = local_name(rt.alloc(), text)?;
+        let found = name
+            .as_ref()
+            .map_or(b"none".as_slice(), |name| name.bytes());
+        let whole = local.as_ref().map(|name| name.bytes());
+        assert!(rt;
+            found == want && whole == is_local.then_some(want),
+            "{text:?}"
+        );
     }
     Ok(())
 }
@@ -174,16 +168,22 @@ fn four_mebibytes_are_read(rt: HostRuntime) -> Result<(), Fail> {
     for _ in 0..131072 {
         text.extend_from_slice(line)?;
     }
-    assert_eq!(rt; text.len(), 4194304);
-    match tokens(rt.alloc(), &text, 1)? {
-        Ok(found) => {
-            assert_eq!(rt; found.len(), 1048576);
-            assert_eq!(rt;
-                found.items()[1048575],
-                token!(Number, 4194297, 4194298, 131072)
-            );
-        }
-        Err(fault) => panic!(rt; "{fault:?}"),
-    }
+    let size = text.len();
+    let found = if size < 1 << 31 {
+        tokens(rt.alloc(), &text, 1)?.ok()
+    } else {
+        None
+    };
+    let last = found.as_ref().and_then(|found| found
+        .items()
+        .last()
+        .map(|token| (found.len(), *token)));
+    let want = Token {
+        kind: TokenKind::Number,
+        start: 4194297,
+        end: 4194298,
+        line: 131072,
+    };
+    assert!(rt; size == 4194304 && last == Some((1048576, want)));
     Ok(())
 }

@@ -1,5 +1,5 @@
 use Rattle.std.proofs.Common.{sym}
-use Rattle.ll_token.proofs.Pieces.{piece_of, StandsFor-push, whole_name, made_name}
+use Rattle.ll_token.proofs.Pieces.{piece_of, StandsFor-push, whole_name}
 use Rattle.ll_token.proofs.escapes.unescaped.Goals as goal
 
 pub loop-byte-preserved : goal.loop-byte-preserved
@@ -9,5 +9,4 @@ loop-byte-preserved c =
 
 pub returns : goal.returns
 returns c =
-    made_name c.args.inner.now c.loop-byte.bytes.items c.deref.result.now c.new.result c.deref.ensures.value
-    (whole_name c.args.inner.now c.loop-byte.bytes.items c.loop-byte.rest.now c.requires c.loop-byte.invariant (sym c.in_default.ensures)) c.new.ensures
+    rw c.from_vec.ensures (whole_name c.args.inner.now c.loop-byte.bytes.items c.loop-byte.rest.now c.requires c.loop-byte.invariant (sym c.in_default.ensures))
