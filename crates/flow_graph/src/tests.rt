@@ -1,0 +1,37 @@
+use crate::{Edge, mark_reached, path_to};
+use std::test::Fail;
+
+// A diamond 0, 1, 2, 3, an edge from it to 4, and 5, which no edge reaches.
+const EDGES: [Edge; 6] = [
+    Edge { from: 0, to: 1 },
+    Edge { from: 0, to: 2 },
+    Edge { from: 1, to: 3 },
+    Edge { from: 2, to: 3 },
+    Edge { from: 3, to: 4 },
+    Edge { from: 5, to: 6 },
+];
+
+#[test]
+fn blocks_are_reached_around_a_block(rt: HostRuntime) -> Result<(), Fail> {
+    for (without, reached) in [
+        (7, [true, true, true, true, true, false, false]),
+        (0, [true, false, false, false, false, false, false]),
+        (1, [true, true, true, true, true, false, false]),
+        (3, [true, true, true, true, false, false, false]),
+    ] {
+        let mut marks = [true; 7];
+        mark_reached(&EDGES, 0, without, &mut marks);
+        assert_eq!(rt; marks, reached, "around {without}");
+    }
+    Ok(())
+}
+
+#[test]
+fn paths_go_around_a_block(rt: HostRuntime) -> Result<(), Fail> {
+    let mut marks = [false; 7];
+    mark_reached(&EDGES, 0, 1, &mut marks);
+    assert!(rt; marks[4]);
+    let path = path_to(rt.alloc(), &EDGES, 0, 1, &marks, 4)?;
+    assert_eq!(rt; path.items(), [0, 2, 3, 4].as_slice());
+    Ok(())
+}

@@ -1,0 +1,9 @@
+use Rattle.std.proofs.Common.{refl}
+use Rattle.std.proofs.lemmas.Result.{IfOk-equal}
+use Rattle.ll_tree.specs.Text.{param_pieces}
+use Rattle.ll_tree.proofs.Texts.{separated_from}
+use Rattle.ll_tree.proofs.printing.func.push_params.Goals as goal
+
+pub returns-in_ok-push_param-in-len1-up : goal.returns-in_ok-push_param-in-len1-up
+returns-in_ok-push_param-in-len1-up c =
+    IfOk-equal _ _ _ _ c.push_more_params.ensures (separated_from param_pieces c.args.params.now _ c.first-item.result _ _ c.in-len1-up.len_at_least refl c.first-item.is c.in_ok-push_param-in-len1-up.ensures)
