@@ -1,0 +1,3 @@
+mod DigitLaws
+mod ReadingLaws
+mod WordLaws
