@@ -1,0 +1,5 @@
+pub mod Acyclic
+pub mod Blocking
+pub mod Taking
+pub mod Turning
+pub mod Walking
