@@ -1,0 +1,2 @@
+pub mod BoundsLaws
+pub mod HintsLaws
