@@ -123,41 +123,47 @@ fn named(alloc: Global, text: &[u8]) -> Result<Option<Name>, Fail> {
     }
 }
 
+// A text, the name that its one token holds, or `none`, and whether the whole text is a local name. Bytes are as in `LISTED`.
+const NAMES: &str = r#"%12|12|local
+%"12"|12|local
+%"a\5Cb"|a\b|local
+@"\\"|\|
+@a.b$c|a.b$c|
+entry:|entry|
+"a b":|a b|
+"\00\fF"|&?|
+""||
+%x|x|local
+%"a b"|a b|local
+%x |x|
+ %x|x|
+@x|x|
+%|none|
+%""|none|
+%"\z"|none|
+|none|"#;
+
 #[test]
 fn tokens_hold_names_and_local_names_are_whole_texts(rt: HostRuntime) -> Result<(), Fail> {
-    // The name of a text's one token, and whether the whole text is a local name.
-    let table: [(&[u8], &[u8], bool); 18] = [
-        (b"%12", b"12", true),
-        (b"%\"12\"", b"12", true),
-        (b"%\"a\\5Cb\"", b"a\\b", true),
-        (b"@\"\\\\\"", b"\\", false),
-        (b"@a.b$c", b"a.b$c", false),
-        (b"entry:", b"entry", false),
-        (b"\"a b\":", b"a b", false),
-        (b"\"\\00\\fF\"", b"\0\xFF", false),
-        (b"\"\"", b"", false),
-        (b"%x", b"x", true),
-        (b"%\"a b\"", b"a b", true),
-        (b"%x ", b"x", false),
-        (b" %x", b"x", false),
-        (b"@x", b"x", false),
-        (b"%", b"none", false),
-        (b"%\"\"", b"none", false),
-        (b"%\"\\z\"", b"none", false),
-        (b"", b"none", false),
-    ];
-    for (text, want, is_local) in table {
-        let name = named(rt.alloc(), text)?;
-        let local = local_name(rt.alloc(), text)?;
+    let mut seen: u64 = 0;
+    for line in NAMES.lines() {
+        let (text, rest) = line.split_once('|').ok_or("no name")?;
+        let (want, local) = rest.split_once('|').ok_or("no answer")?;
+        let text = plain(rt.alloc(), text)?;
+        let want = plain(rt.alloc(), want)?;
+        let name = named(rt.alloc(), &text)?;
         let found = name
             .as_ref()
             .map_or(b"none".as_slice(), |name| name.bytes());
-        let whole = local.as_ref().map(|name| name.bytes());
-        assert!(rt;
-            found == want && whole == is_local.then_some(want),
-            "{text:?}"
-        );
+        let whole = local_name(rt.alloc(), &text)?;
+        let is_right = match &whole {
+            Some(name) => local == "local" && name.bytes() == want.as_slice(),
+            None => local == "",
+        };
+        assert!(rt; found == want.as_slice() && is_right, "{line}");
+        seen = seen.saturating_add(1);
     }
+    assert!(rt; seen == 18);
     Ok(())
 }
 

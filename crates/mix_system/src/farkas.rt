@@ -53,22 +53,23 @@ mod tests {
         parts.push(FarkasPart { lit, by: 2 })?;
         let farkas = Farkas { parts }.copy(alloc)?;
         let part = farkas.parts.get(0).ok_or("empty")?;
-        assert_eq!(rt; farkas.parts.len(), 1);
-        assert_eq!(rt; part.lit, lit);
-        assert_eq!(rt; part.by, 2);
+        assert!(rt; farkas.parts.len() == 1 && part.lit == lit && part.by == 2);
 
         let mut numbers = Numbers::new(alloc);
         numbers.push(i128::MIN)?;
-        assert_eq!(rt; numbers.copy(alloc)?.items(), [i128::MIN].as_slice());
         let mut lits = Lits::new(alloc);
         lits.push(lit)?;
-        assert_eq!(rt; lits.copy(alloc)?.items(), [lit].as_slice());
         let mut terms = Terms::new(alloc);
         terms.push(Term::Var(0))?;
-        assert_eq!(rt; terms.copy(alloc)?.items(), [Term::Var(0)].as_slice());
         let mut hints = Hints::new(alloc);
         hints.push(u32::MAX)?;
-        assert_eq!(rt; hints.copy(alloc)?.items(), [u32::MAX].as_slice());
+        let copies = [
+            numbers.copy(alloc)?.items() == [i128::MIN].as_slice(),
+            lits.copy(alloc)?.items() == [lit].as_slice(),
+            terms.copy(alloc)?.items() == [Term::Var(0)].as_slice(),
+            hints.copy(alloc)?.items() == [u32::MAX].as_slice(),
+        ];
+        assert_eq!(rt; copies, [true; 4]);
         Ok(())
     }
 }

@@ -155,11 +155,9 @@ mod tests {
     #[test]
     fn a_system_gives_back_what_was_added(rt: HostRuntime) -> Result<(), Fail> {
         let mut system = System::new(rt.alloc());
-        assert_eq!(rt; system.add_var(-3, 5)?, 0);
-        assert_eq!(rt; system.add_var(0, 0)?, 1);
+        let vars = [system.add_var(-3, 5)?, system.add_var(0, 0)?];
         let parts = [Part { coeff: 2, var: 0 }, Part { coeff: -1, var: 1 }];
-        assert_eq!(rt; system.add_row(&parts)?, 0);
-        assert_eq!(rt; system.add_row(&[])?, 1);
+        let rows = [system.add_row(&parts)?, system.add_row(&[])?];
         let lits = [
             Lit {
                 term: Term::Row(0),
@@ -172,16 +170,18 @@ mod tests {
                 bound: -2,
             },
         ];
-        assert_eq!(rt; system.add_clause(&lits)?, 0);
-        assert_eq!(rt; system.add_clause(&[])?, 1);
-
-        assert_eq!(rt; (system.vars(), system.rows(), system.clauses()), (2, 2, 2));
-        assert_eq!(rt; system.range(0), (-3, 5));
-        assert_eq!(rt; system.range(1), (0, 0));
-        assert_eq!(rt; system.row(0), parts.as_slice());
-        assert!(rt; system.row(1).is_empty());
-        assert_eq!(rt; system.clause(0), lits.as_slice());
-        assert!(rt; system.clause(1).is_empty());
+        let clauses = [system.add_clause(&lits)?, system.add_clause(&[])?];
+        let counts = [system.vars(), system.rows(), system.clauses()];
+        assert_eq!(rt;
+            (vars, rows, clauses, counts),
+            ([0, 1], [0, 1], [0, 1], [2; 3])
+        );
+        let kept = [
+            system.range(0) == (-3, 5) && system.range(1) == (0, 0),
+            system.row(0) == parts.as_slice() && system.row(1).is_empty(),
+            system.clause(0) == lits.as_slice() && system.clause(1).is_empty(),
+        ];
+        assert_eq!(rt; kept, [true; 3]);
         Ok(())
     }
 }
