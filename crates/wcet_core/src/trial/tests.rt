@@ -20,7 +20,8 @@ impl Machine for Listed {
     ghost widths = { λ listed. listed.widths.items };
 
     ghost reaches = { λ listed args n. option_map (λ run. run.2)
-        (find (λ run. (run.0 == slice_index args 0) && (run.1 == slice_index args 1)) listed.runs.items) ≡ Some n };
+        (find (λ run. (run.0 == slice_index args 0) && (run.1 == slice_index args 1))
+        listed.runs.items) ≡ Some n };
 
     ghost always_runs = { λ _. ⊥ };
 
@@ -39,7 +40,8 @@ fn argument(args: &[u32], at: usize) -> u32
 // The cost of the first of the runs that has these arguments.
 fn cost_of(runs: &[Run], args: &[u32]) -> Option<u64>
     ensures { result ≡ option_map (λ run. run.2)
-        (find (λ run. (run.0 == slice_index args.now 0) && (run.1 == slice_index args.now 1)) runs.now) }
+        (find (λ run. (run.0 == slice_index args.now 0) && (run.1 == slice_index args.now 1))
+        runs.now) }
 {
     runs.iter()
         .find(|run| run.0 == argument(args, 0) && run.1 == argument(args, 1))
