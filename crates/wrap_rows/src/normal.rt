@@ -1,0 +1,197 @@
+ghost use Rattle.std.specs.Prelude.{◌≡◌, ◌+◌, ◌^◌, ◌<◌, ◌≤◌, ◌++◌, ◌∷◌, [], length, All, unsigned_abs, IfOk, OnOk, OnErr};
+ghost use Rattle.std.specs.List.{list_any};
+ghost use Rattle.mix_system.specs.System.{IsInner, Exists};
+ghost use Rattle.wrap_rows.specs.Normal.{is_same_lit, unless_zero, merged, lesser_count, with_part, sizes, row_of, with_lit, clause_of};
+
+use mix_system::{Lit, Part, Side, System, Term};
+use smallvec::SmallVec;
+use std::alloc::Global;
+use wx_base::NoMemory;
+
+type Parts = SmallVec<Part, 8>;
+
+type Lits = SmallVec<Lit, 8>;
+
+// Puts a part that isn't zero and then the rest.
+fn push_unless_zero(sum: &mut Parts, part: Part, rest: &[Part]) -> Result<(), NoMemory>
+    ensures { OnOk result (sum.new.items ≡ sum.old.items ++ unless_zero part rest.now) }
+{
+    if part.coeff != 0 {
+        sum.push(part)?;
+        sum.extend_from_slice(rest)?;
+        Ok(())
+    } else {
+        sum.extend_from_slice(rest)?;
+        Ok(())
+    }
+}
+
+// Puts a part and the rest, whose variables are no lesser.
+fn merge(sum: &mut Parts, part: Part, rest: &[Part]) -> Result<(), NoMemory>
+    requires { unsigned_abs part.coeff + sizes rest.now < 2 ^ 126 }
+    ensures { OnOk result (sum.new.items ≡ sum.old.items ++ merged part rest.now) }
+{
+    let [next, after @ ..] = rest else {
+        return push_unless_zero(sum, part, rest);
+    };
+    if part.var == next.var {
+        let total = Part {
+            coeff: part.coeff + next.coeff,
+            var: part.var,
+        };
+        push_unless_zero(sum, total, after)
+    } else {
+        push_unless_zero(sum, part, rest)
+    }
+}
+
+// How many parts from the front on are of a lesser variable.
+fn lesser_count(parts: &[Part], var: u32) -> usize
+    ensures value { result ≡ lesser_count var parts.now }
+    ensures within { result ≤ length parts.now }
+{
+    parts.iter().take_while(|part| part.var < var).count()
+}
+
+// The parts with one more.
+fn with_part(alloc: Global, parts: &[Part], part: Part) -> Result<Parts, NoMemory>
+    requires { unsigned_abs part.coeff + sizes parts.now < 2 ^ 126 }
+    ensures { IfOk result (λ sum. sum.items ≡ with_part parts.now part) }
+{
+    let (before, rest) = parts.split_at(lesser_count(parts, part.var));
+    let mut sum = SmallVec::from_slice(alloc, before)?;
+    merge(&mut sum, part, rest)?;
+    Ok(sum)
+}
+
+/// Adds the sum of some parts as a row in normal form, and gives its number.
+/// The variables exist, and the coefficients are small.
+///
+/// Where memory is wanting the system stands as before.
+pub fn add_sum(alloc: Global, into: &mut System, parts: &[Part]) -> Result<u32, NoMemory>
+    requires known { All (λ part. part.var < length into.old.ranges) parts.now }
+    requires small { sizes parts.now < 2 ^ 126 }
+    requires room { length into.old.rows + 1 < 2 ^ 31 }
+    ensures number { IfOk result (λ row. row ≡ length into.old.rows) }
+    ensures ok { OnOk result (into.new ≡ record into.old { rows = into.old.rows ++ row_of parts.now ∷ [] }) }
+    ensures err { OnErr result (into.new ≡ into.old) }
+{
+    let mut row = SmallVec::new(alloc);
+    for part in parts {
+        row = with_part(alloc, row.as_slice(), *part)?;
+    }
+    into.add_row(row.as_slice())
+}
+
+// Whether two literals are the same.
+fn is_same(lit: &Lit, other: &Lit) -> bool
+    ensures { result ≡ is_same_lit lit.now other.now }
+{
+    let same_term = match (lit.term, other.term) {
+        (Term::Var(a), Term::Var(b)) | (Term::Row(a), Term::Row(b)) => a == b,
+        _ => false,
+    };
+    let same_side = match (lit.side, other.side) {
+        (Side::Le, Side::Le) | (Side::Ge, Side::Ge) => true,
+        _ => false,
+    };
+    same_term && same_side && lit.bound == other.bound
+}
+
+// Whether a literal is among others.
+fn is_among(lit: &Lit, lits: &[Lit]) -> bool
+    ensures { result ≡ list_any (is_same_lit lit.now) lits.now }
+{
+    lits.iter().any(|other| is_same(lit, other))
+}
+
+// Puts a literal that isn't there yet.
+fn push_new(lits: &mut Lits, lit: Lit) -> Result<(), NoMemory>
+    ensures { OnOk result (lits.new.items ≡ with_lit lits.old.items lit) }
+{
+    if !is_among(&lit, lits.as_slice()) {
+        lits.push(lit)?;
+    }
+    Ok(())
+}
+
+/// Adds a clause in normal form. The terms of its literals exist, and no bound is the least or the greatest `i128`.
+///
+/// Where memory is wanting the system stands as before.
+pub fn add_lits(alloc: Global, into: &mut System, lits: &[Lit]) -> Result<(), NoMemory>
+    requires known { All (λ lit. Exists (length into.old.ranges) (length into.old.rows) lit.term) lits.now }
+    requires inner { All (λ lit. IsInner lit.bound) lits.now }
+    requires room { length into.old.clauses + 1 < 2 ^ 31 }
+    ensures ok { OnOk result (into.new ≡ record into.old { clauses = into.old.clauses ++ clause_of lits.now ∷ [] }) }
+    ensures err { OnErr result (into.new ≡ into.old) }
+{
+    let mut clause = SmallVec::new(alloc);
+    for lit in lits {
+        push_new(&mut clause, *lit)?;
+    }
+    into.add_clause(clause.as_slice())?;
+    Ok(())
+}
+
+#[cfg(test)]
+mod tests {
+    use super::*;
+    use std::test::Fail;
+
+    #[test]
+    fn rows_and_clauses_stand_in_normal_form(rt: HostRuntime) -> Result<(), Fail> {
+        let mut system = System::new(rt.alloc());
+        system.add_var(0, 9)?;
+        system.add_var(0, 9)?;
+        system.add_var(0, 9)?;
+        system.add_var(0, 9)?;
+        let parts = [
+            Part { coeff: 2, var: 3 },
+            Part { coeff: 1, var: 1 },
+            Part { coeff: -2, var: 3 },
+            Part { coeff: 5, var: 0 },
+            Part { coeff: 4, var: 1 },
+            Part { coeff: 0, var: 2 },
+        ];
+        let row = [Part { coeff: 5, var: 0 }, Part { coeff: 5, var: 1 }];
+        assert_eq!(rt; add_sum(rt.alloc(), &mut system, &parts)?, 0);
+        let lits = [
+            Lit {
+                term: Term::Var(1),
+                side: Side::Ge,
+                bound: 1,
+            },
+            Lit {
+                term: Term::Row(0),
+                side: Side::Ge,
+                bound: 1,
+            },
+            Lit {
+                term: Term::Var(1),
+                side: Side::Ge,
+                bound: 1,
+            },
+            Lit {
+                term: Term::Var(1),
+                side: Side::Le,
+                bound: 1,
+            },
+            Lit {
+                term: Term::Var(1),
+                side: Side::Ge,
+                bound: 2,
+            },
+            Lit {
+                term: Term::Row(0),
+                side: Side::Ge,
+                bound: 1,
+            },
+        ];
+        let clause = [lits[0], lits[1], lits[3], lits[4]];
+        add_lits(rt.alloc(), &mut system, &lits)?;
+        assert_eq!(rt; (system.rows(), system.clauses()), (1, 1));
+        assert_eq!(rt; system.row(0), row.as_slice());
+        assert_eq!(rt; system.clause(0), clause.as_slice());
+        Ok(())
+    }
+}
