@@ -1,0 +1,4 @@
+pub mod BoundLists
+pub mod FirstBounds
+pub mod FirstTableau
+pub mod Pivoting

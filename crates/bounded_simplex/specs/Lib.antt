@@ -1,0 +1,5 @@
+pub mod BoundPlaces
+pub mod InForce
+pub mod Pivot
+pub mod StoredBounds
+pub mod TableauOf
