@@ -1,0 +1,4 @@
+pub mod WordLaws
+pub mod NameLaws
+pub mod CursorLaws
+pub mod TableLaws

@@ -1,0 +1,39 @@
+//! A whole function, without the brace that closes it.
+
+ghost use Rattle.std.specs.Prelude.{◌≡◌};
+ghost use Rattle.ll_grammar.specs.Reading.{Gives};
+ghost use Rattle.ll_grammar.specs.Header.{function};
+
+use crate::block::blocks;
+use crate::cursor::Cursor;
+use crate::header::{decimal, params, result_type, to_body};
+use crate::stop::{Place, Stop};
+use ll_token::TokenKind;
+use ll_tree::Func;
+use std::alloc::Global;
+
+/// Reads the function that the tokens before its last brace spell.
+///
+/// Answers `Refused` where the grammar can't go on with a token: the cursor stands at it. Answers `RanOut`
+/// where the tokens ended before the function did.
+#[tactic(auto, unfolding(crate::specs::Header::function))]
+pub fn read_function(alloc: Global, cursor: &mut Cursor) -> Result<Func, Stop>
+    ensures { Gives result cursor.new (function cursor.old) }
+{
+    cursor.keyword(b"define")?;
+    let result = result_type(cursor)?;
+    let name = cursor.name(alloc, TokenKind::Global, Place::Other)?;
+    cursor.mark(b'(')?;
+    let (params, unnamed) = params(alloc, cursor)?;
+    to_body(cursor)?;
+    let unwritten = decimal(alloc, unnamed)?;
+    let blocks = blocks(alloc, cursor, unwritten)?;
+    Ok(Func {
+        name,
+        ret: result.ret,
+        ret_noundef: result.noundef,
+        ret_range: result.range,
+        params,
+        blocks,
+    })
+}
