@@ -1,4 +1,5 @@
 pub mod BoundLists
+pub mod Coefficients
 pub mod FirstBounds
 pub mod FirstTableau
 pub mod Pivoting

@@ -3,3 +3,4 @@ pub mod InForce
 pub mod Pivot
 pub mod StoredBounds
 pub mod TableauOf
+pub mod Terms

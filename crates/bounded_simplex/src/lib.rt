@@ -2,7 +2,9 @@
 #![tactic(auto)]
 
 mod bounds;
+mod laws;
 mod tableau;
 
 pub use bounds::{Bounds, Mark};
+pub use laws::equations_cancel_out;
 pub use tableau::{PivotExcess, Tableau};

@@ -1,0 +1,5 @@
+use Rattle.bounded_simplex.proofs.Coefficients.{cancels_out}
+use Rattle.bounded_simplex.proofs.laws.equations_cancel_out.Goals as goal
+
+pub returns : goal.returns
+returns c = cancels_out
