@@ -157,7 +157,7 @@ mod tests {
     use mix_system::Part;
     use std::test::Fail;
 
-    // Row 0 is 2 a + 3 b, as column 2, and row 1 is 4 a - b, as column 3.
+    // The rows are 2 a + 3 b, as column 2, and 4 a - b, as column 3.
     #[test]
     fn the_first_basis_is_the_rows(rt: HostRuntime) -> Result<(), Fail> {
         let alloc = rt.alloc();
