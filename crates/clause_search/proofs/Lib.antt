@@ -1,0 +1,4 @@
+pub mod Looking
+pub mod Propagation
+pub mod Reasons
+pub mod Spans
