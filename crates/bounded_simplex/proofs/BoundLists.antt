@@ -51,7 +51,7 @@ both : (a b : Bool) → (a && b) ≡ true → (a ≡ true) × (b ≡ true)
 both true b e = (refl, e)
 both false b e = cc
 
-from_bounds_on : (term : Term) (side : Side) (lit : Lit) → bounds_on term side lit ≡ true → (lit.term ≡ term) × (lit.side ≡ side)
+pub from_bounds_on : (term : Term) (side : Side) (lit : Lit) → bounds_on term side lit ≡ true → (lit.term ≡ term) × (lit.side ≡ side)
 from_bounds_on term side lit e =
     let (of_term, of_side) = both (is_same_term lit.term term) (is_same_side lit.side side) e in
     (from_same_term lit.term term of_term, from_same_side lit.side side of_side)

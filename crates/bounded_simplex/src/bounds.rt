@@ -1,6 +1,7 @@
 ghost use Rattle.std.specs.Prelude.{◌≡◌, ◌↔◌, ◌+◌, ◌-◌, ◌*◌, ◌<◌, ◌≤◌, ◌^◌, false, [], ◌∷◌, ◌++◌, length, take, IfOk, OnOk, IsTrue};
 ghost use Rattle.bounded_simplex.specs.BoundPlaces.{place_of as place_of_side};
 ghost use Rattle.mix_system.specs.System.{Exists};
+ghost use Rattle.bounded_simplex.specs.Terms.{term_of};
 ghost use Rattle.bounded_simplex.specs.InForce.{tightened as tighter_end, in_force, Contradict};
 
 use mix_system::{Lit, Side, System, Term};
@@ -133,6 +134,27 @@ impl<'a> Bounds<'a> {
             let place = place_of(self.system.vars(), lit.term, lit.side);
             self.ends[place] = before;
         }
+    }
+
+    /// The term of a column.
+    pub fn term_at(&self, column: u32) -> Term
+        requires { column < length self.now.system.ranges + length self.now.system.rows }
+        ensures term { result ≡ term_of (length self.now.system.ranges) column }
+        ensures exists { Exists (length self.now.system.ranges) (length self.now.system.rows) result }
+    {
+        let vars = self.system.vars();
+        if column < vars {
+            return Term::Var(column);
+        }
+        Term::Row(column - vars)
+    }
+
+    /// The bound in force on a side, `None` where the term has none there.
+    pub fn end(&self, term: Term, side: Side) -> Option<i128>
+        requires { Exists (length self.now.system.ranges) (length self.now.system.rows) term }
+        ensures { result ≡ in_force self.now term side }
+    {
+        self.ends[place_of(self.system.vars(), term, side)]
     }
 
     /// The lower bound in force, `None` where the term has none.

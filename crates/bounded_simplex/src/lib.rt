@@ -3,8 +3,10 @@
 
 mod bounds;
 mod laws;
+mod refutation;
 mod tableau;
 
 pub use bounds::{Bounds, Mark};
 pub use laws::equations_cancel_out;
+pub use refutation::refute;
 pub use tableau::{PivotExcess, Tableau};
