@@ -5,3 +5,4 @@ pub mod FirstTableau
 pub mod InBox
 pub mod Pivoting
 pub mod Refuting
+pub mod TwoBounds

@@ -8,5 +8,5 @@ mod tableau;
 
 pub use bounds::{Bounds, Mark};
 pub use laws::equations_cancel_out;
-pub use refutation::refute;
+pub use refutation::{contradiction, refute};
 pub use tableau::{PivotExcess, Tableau};

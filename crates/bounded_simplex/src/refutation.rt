@@ -1,8 +1,9 @@
-ghost use Rattle.std.specs.Prelude.{◌≡◌, ◌≢◌, ℕ, ◌+◌, ◌<◌, ℤ, pos, ◌+ℤ◌, ◌≤ℤ◌, length, All, IfOk, IfErr, IfSome};
+ghost use Rattle.std.specs.Prelude.{◌≡◌, ◌≢◌, ℕ, ◌+◌, ◌<◌, ℤ, pos, ◌+ℤ◌, ◌≤ℤ◌, [], ◌∷◌, ◌↔◌, length, All, IfOk, IfErr, IfSome, IsSome};
 ghost use Rattle.wx_num.specs.Excess.{Overflows};
 ghost use Rattle.mix_system.specs.System.{Exists};
 ghost use Rattle.mix_system.specs.FarkasSum.{FarkasRefutes, bound_weight};
 ghost use Rattle.tableau_rows.specs.Equation.{total};
+ghost use Rattle.bounded_simplex.specs.InForce.{in_force, Contradict};
 ghost use Rattle.bounded_simplex.specs.Terms.{times_in_column};
 ghost use Rattle.bounded_simplex.specs.Refutation.{box_of, IsPartOf, SaysInForce};
 
@@ -45,6 +46,57 @@ pub fn refute(
         return Ok(Ok(Some(Farkas { parts })));
     }
     Ok(Ok(None))
+}
+
+/// The two bounds of a term, each once, where they contradict each other; else `None`.
+pub fn contradiction(
+    alloc: Global,
+    bounds: &Bounds<'_>,
+    term: Term,
+) -> Result<Option<Farkas>, NoMemory>
+    requires { Exists (length bounds.now.system.ranges) (length bounds.now.system.rows) term }
+    ensures refutes { IfOk result (λ found. IfSome found (λ f. FarkasRefutes bounds.now.system.rows (box_of bounds.now) f.parts)) }
+    ensures says { IfOk result (λ found. IfSome found (λ f. All (λ part. SaysInForce bounds.now part.lit) f.parts)) }
+    ensures none { IfOk result (λ found. IsSome found ↔ Contradict (in_force bounds.now term Side.Ge) (in_force bounds.now term Side.Le)) }
+{
+    let Some(low) = bounds.low(term) else {
+        return Ok(None);
+    };
+    let Some(high) = bounds.high(term) else {
+        return Ok(None);
+    };
+    if low <= high {
+        return Ok(None);
+    }
+    let at_least = FarkasPart {
+        lit: Lit {
+            term,
+            side: Side::Ge,
+            bound: low,
+        },
+        by: 1,
+    };
+    let at_most = FarkasPart {
+        lit: Lit {
+            term,
+            side: Side::Le,
+            bound: high,
+        },
+        by: 1,
+    };
+    Ok(Some(Farkas {
+        parts: two(alloc, at_least, at_most)?,
+    }))
+}
+
+// The list of two parts.
+fn two(alloc: Global, first: FarkasPart, second: FarkasPart) -> Result<FarkasParts, NoMemory>
+    ensures { IfOk result (λ parts. parts ≡ first ∷ second ∷ []) }
+{
+    let mut parts = FarkasParts::new(alloc);
+    parts.push(first)?;
+    parts.push(second)?;
+    Ok(parts)
 }
 
 // The part of an entry, None where the bound that it wants isn't there.
@@ -96,5 +148,40 @@ fn with_bound(constant: i128, part: FarkasPart) -> Result<i128, Excess>
     match part.lit.side {
         Side::Le => Num::add(constant, product),
         Side::Ge => Num::sub(constant, product),
+    }
+}
+
+#[cfg(test)]
+mod tests {
+    use super::*;
+    use mix_system::System;
+    use std::test::Fail;
+
+    // x in 0 .. 5 with x <= -1.
+    #[test]
+    fn contradicting_bounds_refute(rt: HostRuntime) -> Result<(), Fail> {
+        let alloc = rt.alloc();
+        let mut system = System::new(alloc);
+        system.add_var(0, 5)?;
+        let mut bounds = Bounds::new(alloc, &system, 1)?;
+        let x = Term::Var(0);
+        let before = contradiction(alloc, &bounds, x)?.is_some();
+        let at_most = Lit {
+            term: x,
+            side: Side::Le,
+            bound: -1,
+        };
+        let put = bounds.assert_bound(&at_most);
+        let farkas = contradiction(alloc, &bounds, x)?.ok_or("none")?;
+        let mut parts = Vec::new(alloc);
+        for part in farkas.parts.items() {
+            parts.push((part.lit.side, part.lit.bound, part.by))?;
+        }
+        assert_eq!(rt; (before, put), (false, false));
+        assert_eq!(rt;
+            parts.as_slice(),
+            [(Side::Ge, 0, 1), (Side::Le, -1, 1)].as_slice()
+        );
+        Ok(())
     }
 }
