@@ -110,3 +110,7 @@ formed_more rows at entering place fresh more slot is count here before k o with
     (λ (le : place ≤ k).
     let same : k ≡ place = omega arith in
     subst (IsFresh rows at entering k) (sym (ap (λ l. get_or l k o) is ∙ get_or_at fresh slot [] o k (count ∙ sym same))) (subst (λ n. IsFresh rows at entering n slot) (sym same) here)) (cases_lt k place)
+
+-- an equation that was read at a place
+pub read_at : (rows : List Equation) (at : ℕ) (x d : Equation) → at < length rows → x ≡ get_or rows at x → x ≡ get_or rows at d
+read_at rows at x d within is = is ∙ get_or_default rows at x d within

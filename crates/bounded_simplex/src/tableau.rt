@@ -39,6 +39,22 @@ impl Tableau {
         Ok(Tableau { rows })
     }
 
+    /// How often the equation at a place takes a column.
+    pub fn coefficient(&self, at: usize, column: u32) -> i128
+        requires { at < length self.now.rows.items }
+        ensures { (d : AnEquation) → result ≡ taken (slice_index_or self.now.rows.items at d) column }
+    {
+        self.rows[at].coefficient(column)
+    }
+
+    /// The basic column of the equation at a place.
+    pub fn basic(&self, at: usize) -> u32
+        requires { at < length self.now.rows.items }
+        ensures { (d : AnEquation) → result ≡ (slice_index_or self.now.rows.items at d).basic }
+    {
+        self.rows[at].basic
+    }
+
     /// A pivot on the equation at a place: the column `entering` enters the basis in the place of its basic column.
     /// All other equations take the entering column no more, and the equations have the same solutions as before.
     ///
@@ -179,6 +195,37 @@ mod tests {
         assert_eq!(rt;
             found.as_slice(),
             [[2, 2, 3, -1], [3, 4, -1, -1]].as_slice()
+        );
+        Ok(())
+    }
+
+    // b enters in the place of 2 a + 3 b.
+    #[test]
+    fn a_pivot_solves_for_the_column_that_enters(rt: HostRuntime) -> Result<(), Fail> {
+        let alloc = rt.alloc();
+        let mut system = System::new(alloc);
+        system.add_var(0, 9)?;
+        system.add_var(0, 9)?;
+        system.add_row(&[Part { coeff: 2, var: 0 }, Part { coeff: 3, var: 1 }])?;
+        system.add_row(&[Part { coeff: 4, var: 0 }, Part { coeff: -1, var: 1 }])?;
+        let mut tableau = Tableau::new(alloc, &system)?;
+        assert!(rt; tableau.rows.len() > 0);
+        assert_ne!(rt; tableau.coefficient(0, 1), 0);
+        assert_ne!(rt; tableau.basic(0), 1);
+        tableau.pivot(alloc, 0, 1)??;
+        let mut found = Vec::new(alloc);
+        for row in &tableau.rows {
+            found.push([
+                row.basic as i128,
+                row.coefficient(0),
+                row.coefficient(1),
+                row.coefficient(2),
+                row.coefficient(3),
+            ])?;
+        }
+        assert_eq!(rt;
+            found.as_slice(),
+            [[1, -2, -3, 1, 0], [3, 14, 0, -1, -3]].as_slice()
         );
         Ok(())
     }
