@@ -28,109 +28,45 @@ result i8 77
 method trial
 ";
 
-const WIDE: &str = "define i8 @f(i8 %x, i8 %y, i8 %z) {
-end:
-  ret i8 %x
-}
-";
-
-fn name(alloc: Global, text: &str) -> Result<Name, Fail> {
-    Ok(Name::new(alloc, text.as_bytes())?)
-}
-
-// A command on files in memory, of which a call may fail, into a sink of which a put may fail.
-#[derive(Clone, Copy)]
-struct Case {
-    words: &'static [&'static str],
-    file: &'static str,
-    costs: &'static str,
-    failing: &'static [u64],
-    broken: &'static [(u64, usize)],
-    // What is written, and the status.
-    text: &'static str,
+// Whether `analyse` on files in memory of which the listed calls fail, into a sink of which the listed puts fail,
+// writes this text, ends with this status and stores nothing.
+fn is_answered(
+    alloc: Global,
+    failing: &[u64],
+    broken: &[(u64, usize)],
+    text: &str,
     status: u8,
-}
-
-const EXACT_CASE: Case = Case {
-    words: &["analyse", "f", "FILE", "COSTS"],
-    file: TRIANGLE,
-    costs: COSTS,
-    failing: &[],
-    broken: &[],
-    text: EXACT,
-    status: 0,
-};
-
-// Whether a command writes what the case says, ends with its status, and stores nothing.
-fn is_answered(alloc: Global, case: &Case) -> Result<bool, Fail> {
+) -> Result<bool, Fail> {
     let mut pairs = Vec::new(alloc);
-    pairs.push((name(alloc, "FILE")?, case.file.as_bytes().to_vec(alloc)?))?;
-    pairs.push((name(alloc, "COSTS")?, case.costs.as_bytes().to_vec(alloc)?))?;
-    let mut words = Sequence::new(alloc);
-    for word in case.words {
-        words.push(name(alloc, word)?)?;
+    for (name, text) in [("FILE", TRIANGLE), ("COSTS", COSTS)] {
+        pairs.push((
+            Name::new(alloc, name.as_bytes())?,
+            text.as_bytes().to_vec(alloc)?,
+        ))?;
     }
-    let mut files = MemFiles::new(alloc, pairs, case.failing.to_vec(alloc)?);
-    let mut out = MemSink::new(alloc, case.broken.to_vec(alloc)?);
+    let mut words = Sequence::new(alloc);
+    for word in ["analyse", "f", "FILE", "COSTS"] {
+        words.push(Name::new(alloc, word.as_bytes())?)?;
+    }
+    let mut files = MemFiles::new(alloc, pairs, failing.to_vec(alloc)?);
+    let mut out = MemSink::new(alloc, broken.to_vec(alloc)?);
     let outcome = run(alloc, &words, &mut files, &mut out);
     Ok(
-        out.bytes() == case.text.as_bytes()
-            && outcome.exit_code() == ExitCode::from(case.status)
+        out.bytes() == text.as_bytes()
+            && outcome.exit_code() == ExitCode::from(status)
             && files.stored().is_empty(),
     )
 }
 
+// What is refused, and the faults of real files, are cases of tests/commands.
 #[test]
-fn commands_are_answered(rt: HostRuntime) -> Result<(), Fail> {
-    let cases = [
-        EXACT_CASE,
-        Case {
-            file: WIDE,
-            costs: "wcet costs 1\n%end 1\n",
-            text: "refused too-wide 24\n",
-            status: 1,
-            ..EXACT_CASE
-        },
-        Case {
-            file: "",
-            text: "refused not-yet file\n",
-            status: 1,
-            ..EXACT_CASE
-        },
-        Case {
-            costs: "",
-            text: "refused not-yet costs\n",
-            status: 1,
-            ..EXACT_CASE
-        },
-        Case {
-            words: &["analyse", "f"],
-            text: "usage: wcet analyse FUNCTION FILE COSTS\n",
-            status: 2,
-            ..EXACT_CASE
-        },
-        Case {
-            failing: &[0],
-            text: "fault read file\n",
-            status: 5,
-            ..EXACT_CASE
-        },
-        Case {
-            failing: &[1],
-            text: "fault read costs\n",
-            status: 5,
-            ..EXACT_CASE
-        },
-        Case {
-            broken: &[(0, 3)],
-            text: "exa",
-            status: 5,
-            ..EXACT_CASE
-        },
-    ];
-    for (place, case) in cases.iter().enumerate() {
-        assert!(rt; is_answered(rt.alloc(), case)?, "case {place}");
-    }
+fn a_command_is_answered(rt: HostRuntime) -> Result<(), Fail> {
+    let alloc = rt.alloc();
+    assert!(rt;
+        is_answered(alloc, &[], &[], EXACT, 0)?
+            && is_answered(alloc, &[1], &[], "fault read costs\n", 5)?
+            && is_answered(alloc, &[], &[(0, 3)], "exa", 5)?
+    );
     Ok(())
 }
 
@@ -146,14 +82,13 @@ fn the_words_are_all_but_the_first(rt: HostRuntime) -> Result<(), Fail> {
         return Err("there are not two words".into());
     };
     let none = words_of(alloc, Vec::new(alloc).into_iter())?;
+    let refused = NoWords::Refused.exit_code() == ExitCode::from(7)
+        && NoWords::NoMemory.exit_code() == ExitCode::from(6);
     assert!(rt;
         first.bytes() == b"analyse".as_slice()
             && second.bytes() == b"f".as_slice()
             && none.len() == 0
-    );
-    assert_eq!(rt;
-        [NoWords::NoMemory.exit_code(), NoWords::Refused.exit_code()],
-        [ExitCode::from(6), ExitCode::from(7)]
+            && refused
     );
     Ok(())
 }

@@ -58,44 +58,44 @@ fn with_runs(alloc: Global, widths: &[u32], runs: &[Run]) -> Result<Listed, Fail
     })
 }
 
-// The best arguments, padded by 0, how many they are, and their cost.
-fn found(alloc: Global, widths: &[u32], runs: &[Run]) -> Result<Option<Found>, Fail>
+// Whether these are the best arguments, padded by 0, how many they are, and their cost.
+fn finds(
+    alloc: Global,
+    widths: &[u32],
+    runs: &[Run],
+    expected: Option<(u32, u32, usize, u64)>,
+) -> Result<bool, Fail>
     requires { sum widths.now < 32 }
 {
     let mut machine = with_runs(alloc, widths, runs)?;
-    Ok(try_all(alloc, &mut machine, widths)?.map(|best| {
-        let args = best.args.items();
-        (argument(args, 0), argument(args, 1), args.len(), best.cost)
-    }))
+    let best = try_all(alloc, &mut machine, widths)?;
+    let (Some(best), Some((first, second, count, cost))) = (&best, expected) else {
+        return Ok(best.is_none() && expected.is_none());
+    };
+    let args = best.args.items();
+    Ok(
+        argument(args, 0) == first
+            && argument(args, 1) == second
+            && args.len() == count
+            && best.cost == cost,
+    )
 }
-
-type Found = (u32, u32, usize, u64);
 
 #[test]
 fn the_first_of_the_best_is_found(rt: HostRuntime) -> Result<(), Fail> {
     let alloc = rt.alloc();
-    let all = [
-        // The first of those that cost the most, where the last argument varies fastest.
-        found(alloc, &[2], &[(0, 0, 3), (1, 0, 8), (2, 0, 8), (3, 0, 5)])?,
-        found(alloc, &[1, 2], &[(1, 0, 6), (0, 3, 6)])?,
-        // No run at all, or none on arguments of these widths.
-        found(alloc, &[1, 1], &[])?,
-        found(alloc, &[1], &[(2, 0, 9)])?,
-        found(alloc, &[], &[])?,
-        // No parameters have one list of arguments, and no bits one value.
-        found(alloc, &[], &[(0, 0, 0)])?,
-        found(alloc, &[0, 1], &[(0, 1, 4), (1, 1, 9)])?,
-    ];
-    let expected = [
-        Some((1, 0, 1, 8)),
-        Some((0, 3, 2, 6)),
-        None,
-        None,
-        None,
-        Some((0, 0, 0, 0)),
-        Some((0, 1, 2, 4)),
-    ];
-    assert_eq!(rt; all, expected);
+    // The first of those that cost the most, where the last argument varies fastest.
+    let runs = [(0, 0, 3), (1, 0, 8), (2, 0, 8), (3, 0, 5)];
+    let first = finds(alloc, &[2], &runs, Some((1, 0, 1, 8)))?
+        && finds(alloc, &[1, 2], &[(1, 0, 6), (0, 3, 6)], Some((0, 3, 2, 6)))?;
+    // No run at all, or none on arguments of these widths.
+    let none = finds(alloc, &[1, 1], &[], None)?
+        && finds(alloc, &[1], &[(2, 0, 9)], None)?
+        && finds(alloc, &[], &[], None)?;
+    // No parameters have one list of arguments, and no bits one value.
+    let one = finds(alloc, &[], &[(0, 0, 0)], Some((0, 0, 0, 0)))?
+        && finds(alloc, &[0, 1], &[(0, 1, 4), (1, 1, 9)], Some((0, 1, 2, 4)))?;
+    assert!(rt; first && none && one);
     Ok(())
 }
 
