@@ -1,5 +1,5 @@
-pub mod Acyclic
-pub mod Blocking
-pub mod Taking
-pub mod Turning
-pub mod Walking
+pub mod AcyclicLaws
+pub mod BlockingLaws
+pub mod TakingLaws
+pub mod TurnLaws
+pub mod WalkLaws

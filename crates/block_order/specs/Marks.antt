@@ -22,10 +22,10 @@ abbrev pub AreBlocked : List Edge → List Bool → List Bool → Type 0
 AreBlocked edges taken blocked = (block : ℕ) → block < length blocked
     → IsTrue (slice_index_or blocked block false) ↔ ((from : ℕ) × HasEdge edges from block × (slice_index_or taken from false ≡ false))
 
-abbrev pub IsOpen : List Bool → List Bool → ℕ → Type 0
-IsOpen taken blocked block = (slice_index_or taken block false ≡ false) × (slice_index_or blocked block false ≡ false)
+abbrev pub IsTakeable : List Bool → List Bool → ℕ → Type 0
+IsTakeable taken blocked block = (slice_index_or taken block false ≡ false) × (slice_index_or blocked block false ≡ false)
 
 pub record IsFirstOpen (taken blocked : List Bool) (block : ℕ) : Type 0 where
   pub within : block < length taken
-  pub open_here : IsOpen taken blocked block
-  pub least : (other : ℕ) → other < block → IsOpen taken blocked other → ⊥
+  pub open_here : IsTakeable taken blocked block
+  pub least : (other : ℕ) → other < block → IsTakeable taken blocked other → ⊥

@@ -1,5 +1,5 @@
 ghost use Rattle.std.specs.Prelude.{◌≡◌, ◌<◌, ◌^◌, ℕ, true, false, length, All, slice_index_or, MatchOption};
-ghost use Rattle.block_order.specs.Marks.{AreBlocked, IsFirstFree, IsFirstOpen, IsOpen, IsStuck};
+ghost use Rattle.block_order.specs.Marks.{AreBlocked, IsFirstFree, IsFirstOpen, IsTakeable, IsStuck};
 
 use flow_graph::Edge;
 
@@ -33,7 +33,7 @@ fn mark_blocked(edges: &[Edge], taken: &[bool], blocked: &mut [bool])
 fn first_open(taken: &[bool], blocked: &[bool]) -> Option<u32>
     requires same { length blocked.now ≡ length taken.now }
     requires few { length taken.now < 2 ^ 32 }
-    ensures { MatchOption result ((block : ℕ) → block < length taken.now → ¬ IsOpen taken.now blocked.now block)
+    ensures { MatchOption result ((block : ℕ) → block < length taken.now → ¬ IsTakeable taken.now blocked.now block)
         (IsFirstOpen taken.now blocked.now) }
 {
     for block in 0..taken.len() {

@@ -14,10 +14,10 @@ use Rattle.mix_system.specs.System.{IsRange}
 use Rattle.mix_system.specs.Bounds.{Entails, IsIn, IsFalseIn, range_bounds, range_bounds_from}
 use Rattle.bound_trail.specs.Edges.{blank_lit}
 use Rattle.bound_trail.specs.Trail.{Trail, box, box_with, IsTrail}
-use Rattle.bound_trail.proofs.Anywhere.{any_none, any_left, any_right, any_append_cases}
-use Rattle.bound_trail.proofs.Entailed.{negation_entails, sides_differ, falsifies_each_other, in_weaker}
+use Rattle.bound_trail.proofs.AnywhereLaws.{any_none, any_left, any_right, any_append_cases}
+use Rattle.bound_trail.proofs.EntailmentLaws.{negation_entails, sides_differ, falsifies_each_other, in_weaker}
 use Rattle.bound_trail.proofs.EdgeLaws.{in_range_cases}
-use Rattle.bound_trail.proofs.TrailEdges.{more_cases, more_last}
+use Rattle.bound_trail.proofs.TrailEdgeLaws.{more_cases, more_last}
 use Rattle.bound_trail.proofs.TrailLaws.{box_is}
 
 -- what is in force after some literals stays so after more

@@ -12,7 +12,7 @@ use Rattle.mix_system.specs.Bounds.{Entails, IsIn, range_bounds, range_bounds_fr
 use Rattle.bound_trail.specs.declared.edge.Edge.{Edge}
 use Rattle.bound_trail.specs.Edges.{term_number, side_number, place_of, no_edge, range_edges, first_edges}
 use Rattle.bound_trail.specs.Reach.{Reaches}
-use Rattle.bound_trail.proofs.Anywhere.{any_none, any_cons_cases, any_here, any_there}
+use Rattle.bound_trail.proofs.AnywhereLaws.{any_none, any_cons_cases, any_here, any_there}
 
 -- a place tells the term and the side
 side_small : (side : Side) → side_number side < 2

@@ -1,6 +1,6 @@
-pub mod Anywhere
-pub mod Entailed
+pub mod AnywhereLaws
+pub mod EntailmentLaws
 pub mod EdgeLaws
-pub mod TrailEdges
+pub mod TrailEdgeLaws
 pub mod TrailLaws
 pub mod BoxLaws

@@ -16,7 +16,7 @@ use Rattle.bound_trail.specs.Trail.{Trail, box, box_with, IsOpen, IsCause, WasOp
 use Rattle.bound_trail.specs.Falsified.{IsDownTo}
 use Rattle.bound_trail.specs.Stored.{AreEdges, AreLinks}
 use Rattle.bound_trail.proofs.EdgeLaws.{same_place, length-range_edges, place_within, range_of_edge}
-use Rattle.bound_trail.proofs.TrailEdges.{EntryIs, entry_is, edge_after-append, edge_after-take, reaches_where_in, in_where_reaches}
+use Rattle.bound_trail.proofs.TrailEdgeLaws.{EntryIs, entry_is, edge_after-append, edge_after-take, reaches_where_in, in_where_reaches}
 
 by_lt : {P : Type 0} (a b : ℕ) → (a < b → P) → (b ≤ a → P) → P
 by_lt a b f g = ⊎_elim f g (cases_lt a b)

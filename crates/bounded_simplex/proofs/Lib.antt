@@ -1,8 +1,8 @@
-pub mod BoundLists
-pub mod Coefficients
-pub mod FirstBounds
-pub mod FirstTableau
-pub mod InBox
-pub mod Pivoting
-pub mod Refuting
-pub mod TwoBounds
+pub mod BoundListLaws
+pub mod CoefficientLaws
+pub mod FirstBoundLaws
+pub mod FirstTableauLaws
+pub mod InBoxLaws
+pub mod PivotLaws
+pub mod RefutationLaws
+pub mod TwoBoundLaws

@@ -3,7 +3,7 @@ use Rattle.std.specs.Prelude.{◌≡◌, ℕ, Bool, not, ℤ, List, ◌++◌, le
 use Rattle.mix_system.specs.declared.literal.Lit.{Lit}
 use Rattle.mix_system.specs.declared.farkas.FarkasPart.{FarkasPart}
 use Rattle.mix_system.specs.Bounds.{range_bounds}
-use Rattle.mix_system.specs.FarkasSum.{signed}
+use Rattle.mix_system.specs.FarkasSum.{by_side}
 use Rattle.tableau_rows.specs.declared.entry.Entry.{Entry}
 use Rattle.tableau_rows.specs.Turning.{turned_number}
 use Rattle.bounded_simplex.specs.InForce.{BoundChanges, in_force}
@@ -20,5 +20,5 @@ SaysInForce bounds lit = in_force bounds lit.term lit.side ≡ Some lit.bound
 -- the part counts the entry's column as often as the entry takes it, or as often with the other sign, by the bound in force
 pub record IsPartOf (bounds : BoundChanges) (upwards : Bool) (entry : Entry) (part : FarkasPart) : Type 0 where
   pub term : part.lit.term ≡ term_of (length bounds.system.ranges) entry.column
-  pub counted : signed part.lit.side part.by ≡ turned_number (not upwards) entry.coeff
+  pub counted : by_side part.lit.side part.by ≡ turned_number (not upwards) entry.coeff
   pub says : SaysInForce bounds part.lit

@@ -6,7 +6,7 @@ use Rattle.mix_system.specs.declared.row.Part.{Part}
 use Rattle.mix_system.specs.Sum.{int_sum_by}
 use Rattle.mix_system.specs.System.{System}
 use Rattle.tableau_rows.specs.declared.equation.Equation.{Equation}
-use Rattle.tableau_rows.specs.Substitution.{taken, Holds}
+use Rattle.tableau_rows.specs.Substitution.{taken, Satisfies}
 use Rattle.tableau_rows.specs.Turning.{entry_of}
 
 -- the column of a term: variables by number, then rows by number
@@ -22,7 +22,7 @@ Solves system number =
 
 -- each equation holds where each column has a number
 abbrev pub AllHold : List Equation → (ℕ → ℤ) → Type 0
-AllHold rows number = All (Holds number) rows
+AllHold rows number = All (Satisfies number) rows
 
 -- no equation takes the basic column of another one
 abbrev pub AreApart : List Equation → Type 0

@@ -16,7 +16,7 @@ use Rattle.box_check.specs.declared.hints.Open.{Open}
 use Rattle.box_check.specs.declared.hints.Open.TheVariants.{Nothing, One, More}
 use Rattle.box_check.specs.Bounds.{Says, HasSlot, Stands, Extends, Tightens}
 use Rattle.box_check.proofs.BoundsLaws.{Extends-length, Extends_refl, Extends_more}
-use Rattle.box_check.specs.Hints.{IsFalse, HasOneOpen, HasTwoOpen, IsFound, IsOpen}
+use Rattle.box_check.specs.Hints.{IsFalse, HasOneOpen, HasTwoOpen, IsFound, IsLeft}
 
 All_left : {X : Type 0} (P : X → Type 0) (xs ys : List X) → All P (xs ++ ys) → All P xs
 All_left P [] ys all = All-nil P
@@ -72,7 +72,7 @@ module _ (bounds : Bounds) (clause : List Lit) (i : ℕ) where
   found_none (Some lit) e past h = absurd (cc e)
 
 -- what holds of each literal of a clause holds of the one that is left
-pub open_one_is : (P : Lit → Type 0) (bounds : Bounds) (clause : List Lit) (lit : Lit) → IsOpen bounds clause (One lit) → All P clause → P lit
+pub open_one_is : (P : Lit → Type 0) (bounds : Bounds) (clause : List Lit) (lit : Lit) → IsLeft bounds clause (One lit) → All P clause → P lit
 open_one_is P bounds clause lit h all =
     let parts : All P (h.before ++ lit ∷ h.after) = rw (← h.split) all in
     All-head P lit h.after (All_right P h.before (lit ∷ h.after) parts)
@@ -205,18 +205,18 @@ Stands-put old new lit box stands tightens extends other has =
 -- what is left of a clause, whatever the box is for which the bounds stand
 
 module _ (bounds : Bounds) (box clause : List Lit) (stands : Stands bounds box) (slots : All (λ lit. HasSlot bounds lit.term) clause) where
-  pub never_one : (open' : Open) → IsOpen bounds clause open' → ((lit : Lit) → open' ≡ One lit → ⊥) → (lit : Lit) → LeavesOne box clause lit → ⊥
+  pub never_one : (open' : Open) → IsLeft bounds clause open' → ((lit : Lit) → open' ≡ One lit → ⊥) → (lit : Lit) → LeavesOne box clause lit → ⊥
   never_one Nothing is not_one lit one = one_not_none box clause lit one (LeavesNone-from bounds box clause stands slots is)
   never_one (One other) is not_one lit one = not_one other refl
   never_one More is not_one lit one = two_not_one bounds box clause stands slots is lit one
 
-  pub one_from : (lit : Lit) → IsOpen bounds clause (One lit) → LeavesOne box clause lit
+  pub one_from : (lit : Lit) → IsLeft bounds clause (One lit) → LeavesOne box clause lit
   one_from lit is = LeavesOne-from bounds box clause stands slots lit is
 
-  pub none_from : IsOpen bounds clause Nothing → LeavesNone box clause
+  pub none_from : IsLeft bounds clause Nothing → LeavesNone box clause
   none_from is = LeavesNone-from bounds box clause stands slots is
 
-  pub never_none : (open' : Open) → IsOpen bounds clause open' → (open' ≡ Nothing → ⊥) → LeavesNone box clause → ⊥
+  pub never_none : (open' : Open) → IsLeft bounds clause open' → (open' ≡ Nothing → ⊥) → LeavesNone box clause → ⊥
   never_none Nothing is not_none none = not_none refl
   never_none (One lit) is not_none none = one_not_none box clause lit (LeavesOne-from bounds box clause stands slots lit is) none
   never_none More is not_none none = two_not_none bounds box clause stands slots is none
@@ -237,7 +237,7 @@ module _ (known : Known) (start now : Bounds) (all : List ℕ) (hint : ℕ) (res
   slots_now clause slots = All-weaker (λ lit. HasSlot start lit.term) (λ lit. HasSlot now lit.term) (λ lit. HasSlot-later start now r.extends lit.term) clause slots
 
   pub Reaches_next : (new : Bounds) (clause : List Lit) (lit : Lit) → rest ≢ [] → known hint ≡ Some clause → All (λ l. HasSlot start l.term) clause
-      → IsOpen now clause (One lit) → Tightens lit now new → Extends now new → Reaches known start new all rest
+      → IsLeft now clause (One lit) → Tightens lit now new → Extends now new → Reaches known start new all rest
   Reaches_next new clause lit some is slots open' tightens extends = record {
     extends = Extends_more start now new r.extends extends;
     exact = λ box stands.
@@ -251,19 +251,19 @@ module _ (known : Known) (start now : Bounds) (all : List ℕ) (hint : ℕ) (res
   pub fails_unknown : known hint ≡ None → (box : List Lit) → Stands start box → Propagates known box all → ⊥
   fails_unknown none box stands p = let found = r.exact box stands in unknown_hint known found.0 hint rest none (found.2.1 p)
 
-  pub fails_open : (clause : List Lit) (open' : Open) → rest ≢ [] → known hint ≡ Some clause → All (λ l. HasSlot start l.term) clause → IsOpen now clause open' → ((lit : Lit) → open' ≡ One lit → ⊥)
+  pub fails_open : (clause : List Lit) (open' : Open) → rest ≢ [] → known hint ≡ Some clause → All (λ l. HasSlot start l.term) clause → IsLeft now clause open' → ((lit : Lit) → open' ≡ One lit → ⊥)
       → (box : List Lit) → Stands start box → Propagates known box all → ⊥
   fails_open clause open' some is slots is_open not_one box stands p =
       let found = r.exact box stands in
       stuck_hint known found.0 hint rest clause some is (never_one now found.0 clause found.1 (slots_now clause slots) open' is_open not_one) (found.2.1 p)
 
 module _ (known : Known) (start now : Bounds) (all : List ℕ) (hint : ℕ) (r : Reaches known start now all (hint ∷ [])) (clause : List Lit) (is : known hint ≡ Some clause) (slots : All (λ l. HasSlot start l.term) clause) where
-  pub last_none : IsOpen now clause Nothing → (box : List Lit) → Stands start box → Propagates known box all
+  pub last_none : IsLeft now clause Nothing → (box : List Lit) → Stands start box → Propagates known box all
   last_none open' box stands =
       let found = r.exact box stands in
       found.2.0 ((last_hint known found.0 hint clause is).0 (none_from now found.0 clause found.1 (slots_now known start now all hint [] r clause slots) open'))
 
-  pub last_left : (open' : Open) → IsOpen now clause open' → (open' ≡ Nothing → ⊥) → (box : List Lit) → Stands start box → Propagates known box all → ⊥
+  pub last_left : (open' : Open) → IsLeft now clause open' → (open' ≡ Nothing → ⊥) → (box : List Lit) → Stands start box → Propagates known box all → ⊥
   last_left open' is_open not_none box stands p =
       let found = r.exact box stands in
       never_none now found.0 clause found.1 (slots_now known start now all hint [] r clause slots) open' is_open not_none ((last_hint known found.0 hint clause is).1 (found.2.1 p))

@@ -32,10 +32,10 @@ pub record HasTwoOpen (bounds : Bounds) (clause : List Lit) : Type 0 where
   pub second_left : ¬ IsFalse bounds second
 
 -- what is left of the clause
-abbrev pub IsOpen : Bounds → List Lit → Open → Type 0
-IsOpen bounds clause Nothing = All (IsFalse bounds) clause
-IsOpen bounds clause (One lit) = HasOneOpen bounds clause lit
-IsOpen bounds clause More = HasTwoOpen bounds clause
+abbrev pub IsLeft : Bounds → List Lit → Open → Type 0
+IsLeft bounds clause Nothing = All (IsFalse bounds) clause
+IsLeft bounds clause (One lit) = HasOneOpen bounds clause lit
+IsLeft bounds clause More = HasTwoOpen bounds clause
 
 -- the one literal that was found so far not to be false
 abbrev pub IsFound : Bounds → List Lit → Option Lit → Type 0

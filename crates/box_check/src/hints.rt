@@ -2,7 +2,7 @@ ghost use Rattle.std.specs.Prelude.{◌≡◌, ◌↔◌, ℕ, List, IsTrue, IfO
 ghost use Rattle.mix_system.specs.declared.literal.Lit.{Lit as Literal};
 ghost use Rattle.mix_system.specs.Follows.{Propagates};
 ghost use Rattle.box_check.specs.Bounds.{HasSlot, Stands, Extends};
-ghost use Rattle.box_check.specs.Hints.{IsOpen};
+ghost use Rattle.box_check.specs.Hints.{IsLeft};
 
 use crate::Bounds;
 use mix_system::Lit;
@@ -33,7 +33,7 @@ pub enum Open {
 impl Bounds {
     /// What the bounds leave of a clause.
     pub fn left_of(&self, clause: &[Lit]) -> Open
-        ensures { IsOpen self.now clause.now result }
+        ensures { IsLeft self.now clause.now result }
     {
         let mut found = None;
         for lit in clause {

@@ -1,4 +1,4 @@
-pub mod Looking
-pub mod Propagation
-pub mod Reasons
-pub mod Spans
+pub mod LookLaws
+pub mod PropagationLaws
+pub mod ReasonLaws
+pub mod SpanLaws

@@ -1,2 +1,2 @@
-pub mod Backwards
-pub mod Marking
+pub mod BackwardLaws
+pub mod MarkingLaws

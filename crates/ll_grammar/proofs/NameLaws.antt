@@ -7,8 +7,8 @@ use Rattle.ll_token.specs.Bytes.{begins, is_run_byte}
 use Rattle.ll_token.specs.Names.{Writes, StandsFor}
 use Rattle.ll_token.specs.Lexemes.{Holds, has_name}
 use Rattle.ll_token.specs.Reading.{piece_at}
-use Rattle.ll_token.proofs.Lists.{apart, front_byte}
-use Rattle.ll_token.proofs.Pieces.{piece_again, shorter}
+use Rattle.ll_token.proofs.ListLaws.{apart, front_byte}
+use Rattle.ll_token.proofs.PieceLaws.{piece_again, shorter}
 use Rattle.ll_grammar.specs.Tokens.{unescaped_behind, unescaped_within, written, name_in, held_name}
 
 unescaped-is : (inner name : List ℕ) (pieces : ℕ) → StandsFor inner name [] → length inner ≤ pieces → unescaped_within pieces inner ≡ name

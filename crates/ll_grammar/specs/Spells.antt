@@ -47,8 +47,8 @@ abbrev pub IsMark : ℕ → (ts rest : List Tok) → Type 0
 IsMark byte ts rest = Is kinds.Mark (byte ∷ []) ts rest
 
 -- one token of this kind that holds this name
-abbrev pub Names : TokenKind → List ℕ → (ts rest : List Tok) → Type 0
-Names kind name ts rest = (t : Tok) × (ts ≡ t ∷ rest) × (t.kind ≡ kind) × (held_name t.kind t.text ≡ name)
+abbrev pub IsNameOf : TokenKind → List ℕ → (ts rest : List Tok) → Type 0
+IsNameOf kind name ts rest = (t : Tok) × (ts ≡ t ∷ rest) × (t.kind ≡ kind) × (held_name t.kind t.text ≡ name)
 
 -- `i` and the width, 1 to 32
 abbrev pub IsType : ℕ → (ts rest : List Tok) → Type 0
@@ -76,7 +76,7 @@ IsLiteral w n ts rest = (t : Tok) × (ts ≡ t ∷ rest) × (((t.kind ≡ kinds.
 -- ---- operands and targets
 
 abbrev pub IsOperand : ℕ → Operand → (ts rest : List Tok) → Type 0
-IsOperand w (value.Name name) ts rest = Names kinds.Local name ts rest
+IsOperand w (value.Name name) ts rest = IsNameOf kinds.Local name ts rest
 IsOperand w (value.Const n) ts rest = IsLiteral w n ts rest
 IsOperand w value.Poison ts rest = IsWord (codes "poison") ts rest
 
@@ -90,7 +90,7 @@ IsSecond w x ts rest = (a : List Tok) × IsMark 44 ts a × IsOperand w x a rest
 
 -- `label %l`
 abbrev pub IsTarget : List ℕ → (ts rest : List Tok) → Type 0
-IsTarget to ts rest = (a : List Tok) × IsWord (codes "label") ts a × Names kinds.Local to a rest
+IsTarget to ts rest = (a : List Tok) × IsWord (codes "label") ts a × IsNameOf kinds.Local to a rest
 
 -- `, label %l`
 abbrev pub IsNextTarget : List ℕ → (ts rest : List Tok) → Type 0
@@ -198,7 +198,7 @@ ClosesCall ts rest = (a : List Tok) × IsMark 41 ts a × (((t : Tok) × (a ≡ t
 -- `CALL TY @NAME.TY ( TY OP ,`
 abbrev pub BeginsCall : (name : List ℕ) → ℕ → Operand → (ts rest : List Tok) → Type 0
 BeginsCall name w x ts rest =
-    (a b c d e : List Tok) × IsCall ts a × IsType w a b × Names kinds.Global (name ++ (codes "i" ++ decimal w)) b c × IsMark 40 c d × IsTyped w x d e × IsMark 44 e rest
+    (a b c d e : List Tok) × IsCall ts a × IsType w a b × IsNameOf kinds.Global (name ++ (codes "i" ++ decimal w)) b c × IsMark 40 c d × IsTyped w x d e × IsMark 44 e rest
 
 abbrev pub SpellsBin : Bool → BinKind → Flags → ℕ → (left right : Operand) → (ts rest : List Tok) → Type 0
 SpellsBin false kind f w left right ts rest =
@@ -218,12 +218,12 @@ SpellsOp (op.Select w cond left right) ts rest =
 SpellsOp (op.Abs w arg strict) ts rest =
     (n : ℕ) × (strict ≡ (n == 1)) × (a b c : List Tok) × BeginsCall (codes "llvm.abs.") w arg ts a × IsType 1 a b × IsLiteral 1 n b c × ClosesCall c rest
 SpellsOp (op.Assume cond) ts rest =
-    (a b c d e : List Tok) × IsCall ts a × IsWord (codes "void") a b × Names kinds.Global (codes "llvm.assume") b c × IsMark 40 c d × IsTyped 1 cond d e × ClosesCall e rest
+    (a b c d e : List Tok) × IsCall ts a × IsWord (codes "void") a b × IsNameOf kinds.Global (codes "llvm.assume") b c × IsMark 40 c d × IsTyped 1 cond d e × ClosesCall e rest
 
 -- `%r =` and what it stands for; an assume has no result, and the empty name
 abbrev pub SpellsResultOf : List ℕ → Op → (ts rest : List Tok) → Type 0
 SpellsResultOf name (op.Assume cond) ts rest = (name ≡ []) × SpellsOp (op.Assume cond) ts rest
-SpellsResultOf name computed ts rest = (a b : List Tok) × Names kinds.Local name ts a × IsMark 61 a b × SpellsOp computed b rest
+SpellsResultOf name computed ts rest = (a b : List Tok) × IsNameOf kinds.Local name ts a × IsMark 61 a b × SpellsOp computed b rest
 
 abbrev pub SpellsInstr : Instr → (ts rest : List Tok) → Type 0
 SpellsInstr i ts rest = SpellsResultOf i.name i.op ts rest
@@ -232,7 +232,7 @@ SpellsInstr i ts rest = SpellsResultOf i.name i.op ts rest
 
 -- `[ OP, %l ]`
 abbrev pub SpellsEntry : ℕ → PhiEntry → (ts rest : List Tok) → Type 0
-SpellsEntry w e ts rest = (a b c d : List Tok) × IsMark 91 ts a × IsOperand w e.value a b × IsMark 44 b c × Names kinds.Local e.from c d × IsMark 93 d rest
+SpellsEntry w e ts rest = (a b c d : List Tok) × IsMark 91 ts a × IsOperand w e.value a b × IsMark 44 b c × IsNameOf kinds.Local e.from c d × IsMark 93 d rest
 
 -- entries with a comma between two
 abbrev pub SpellEntries : ℕ → List PhiEntry → (ts rest : List Tok) → Type 0
@@ -242,7 +242,7 @@ SpellEntries w (e ∷ next ∷ entries) ts rest = (a b : List Tok) × SpellsEntr
 
 abbrev pub SpellsPhi : Phi → (ts rest : List Tok) → Type 0
 SpellsPhi p ts rest =
-    (a b c d : List Tok) × Names kinds.Local p.name ts a × IsMark 61 a b × IsWord (codes "phi") b c × IsType p.width c d × SpellEntries p.width p.entries d rest
+    (a b c d : List Tok) × IsNameOf kinds.Local p.name ts a × IsMark 61 a b × IsWord (codes "phi") b c × IsType p.width c d × SpellEntries p.width p.entries d rest
 
 -- ---- terminators
 
@@ -304,12 +304,12 @@ SpellsBlock b ts rest = (a c : List Tok) × SpellPhis b.phis ts a × SpellInstrs
 -- blocks with their labels
 abbrev pub SpellBlocks : List Block → (ts rest : List Tok) → Type 0
 SpellBlocks [] ts rest = ts ≡ rest
-SpellBlocks (b ∷ blocks) ts rest = (a c : List Tok) × Names kinds.Label b.label ts a × SpellsBlock b a c × SpellBlocks blocks c rest
+SpellBlocks (b ∷ blocks) ts rest = (a c : List Tok) × IsNameOf kinds.Label b.label ts a × SpellsBlock b a c × SpellBlocks blocks c rest
 
 -- the entry: its label is written behind lines that are passed over, or left out
 abbrev pub SpellsEntryBlock : (unwritten : List ℕ) → Block → (ts rest : List Tok) → Type 0
 SpellsEntryBlock unwritten b ts rest =
-    ((lines : ℕ) × (a c : List Tok) × ArePassed lines ts a × Names kinds.Label b.label a c × SpellsBlock b c rest)
+    ((lines : ℕ) × (a c : List Tok) × ArePassed lines ts a × IsNameOf kinds.Label b.label a c × SpellsBlock b c rest)
     ⊎ ((b.label ≡ unwritten) × SpellsBlock b ts rest)
 
 abbrev pub SpellBody : (unwritten : List ℕ) → List Block → (ts rest : List Tok) → Type 0
@@ -347,7 +347,7 @@ is_some (Some x) = true
 abbrev pub SpellsParam : (unnamed : ℕ) → Param → (ts rest : List Tok) → Type 0
 SpellsParam unnamed p ts rest =
     (noundef : Bool) × (a b : List Tok) × IsType p.width ts a × SpellsAttributes tables.attribute p.width noundef p.range a b
-    × (p.strict ≡ (noundef && is_some p.range)) × (Names kinds.Local p.name b rest ⊎ ((b ≡ rest) × (p.name ≡ decimal unnamed)))
+    × (p.strict ≡ (noundef && is_some p.range)) × (IsNameOf kinds.Local p.name b rest ⊎ ((b ≡ rest) × (p.name ≡ decimal unnamed)))
 
 abbrev pub is_unnamed : Param → Bool
 is_unnamed p = list_all is_ascii_digit p.name
@@ -384,7 +384,7 @@ pub record SpellsFunction (f : Func) (ts : List Tok) : Type 0 where
   pub rest : List Tok
   pub is_define : IsWord (codes "define") ts result
   pub is_result : SpellsResult f.ret f.ret_noundef f.ret_range result name
-  pub is_name : Names kinds.Global f.name name parenthesis
+  pub is_name : IsNameOf kinds.Global f.name name parenthesis
   pub opens : IsMark 40 parenthesis params
   pub are_params : SpellParams 0 f.params params rest
   pub is_between : rest ≡ between ++ brace

@@ -6,7 +6,7 @@ mod LineLaws
 mod LowerLaws
 mod NameTableLaws
 mod NamesLaws
-pub mod OneReading
+pub mod OneReadingLaws
 mod PieceLaws
 mod RulesLaws
 mod SpellsLaws

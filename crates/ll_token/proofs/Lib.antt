@@ -1,8 +1,8 @@
-pub mod Lists
-pub mod Pieces
-pub mod Gaps
-pub mod Strings
-pub mod Lexemes
-pub mod Again
-pub mod Scanning
-pub mod TokenNames
+pub mod ListLaws
+pub mod PieceLaws
+pub mod GapLaws
+pub mod StringLaws
+pub mod LexemeLaws
+pub mod AgainLaws
+pub mod ScanLaws
+pub mod TokenNameLaws

@@ -21,16 +21,16 @@ has_name Hash = false
 has_name Mark = false
 
 -- The text of a token of this kind, before these bytes, holds the name. 37 is `%`, 64 `@`, 58 `:`.
-abbrev pub Holds : TokenKind → (text after name : List ℕ) → Type 0
-Holds Local text after name = (body : List ℕ) × (text ≡ 37 ∷ body) × Writes body after name × (0 < length name)
-Holds Global text after name = (body : List ℕ) × (text ≡ 64 ∷ body) × Writes body after name × (0 < length name)
-Holds Label text after name = (body : List ℕ) × (text ≡ body ++ 58 ∷ []) × Writes body (58 ∷ after) name × (0 < length name)
-Holds String text after name = IsQuoted text name × (begins (λ byte. byte == 58) after ≡ false)
-Holds Number text after name = ⊥
-Holds Word text after name = ⊥
-Holds Meta text after name = ⊥
-Holds Hash text after name = ⊥
-Holds Mark text after name = ⊥
+abbrev pub HoldsName : TokenKind → (text after name : List ℕ) → Type 0
+HoldsName Local text after name = (body : List ℕ) × (text ≡ 37 ∷ body) × Writes body after name × (0 < length name)
+HoldsName Global text after name = (body : List ℕ) × (text ≡ 64 ∷ body) × Writes body after name × (0 < length name)
+HoldsName Label text after name = (body : List ℕ) × (text ≡ body ++ 58 ∷ []) × Writes body (58 ∷ after) name × (0 < length name)
+HoldsName String text after name = IsQuoted text name × (begins (λ byte. byte == 58) after ≡ false)
+HoldsName Number text after name = ⊥
+HoldsName Word text after name = ⊥
+HoldsName Meta text after name = ⊥
+HoldsName Hash text after name = ⊥
+HoldsName Mark text after name = ⊥
 
 -- A run that no `:` follows.
 abbrev pub IsPlainRun : (text after : List ℕ) → Type 0
@@ -38,10 +38,10 @@ IsPlainRun text after = IsRun text after × (begins (λ byte. byte == 58) after 
 
 -- The text is a token of this kind, as long as it can be before the bytes after it.
 abbrev pub IsToken : TokenKind → (text after : List ℕ) → Type 0
-IsToken Local text after = (name : List ℕ) × Holds Local text after name
-IsToken Global text after = (name : List ℕ) × Holds Global text after name
-IsToken Label text after = (name : List ℕ) × Holds Label text after name
-IsToken String text after = (name : List ℕ) × Holds String text after name
+IsToken Local text after = (name : List ℕ) × HoldsName Local text after name
+IsToken Global text after = (name : List ℕ) × HoldsName Global text after name
+IsToken Label text after = (name : List ℕ) × HoldsName Label text after name
+IsToken String text after = (name : List ℕ) × HoldsName String text after name
 IsToken Number text after = IsPlainRun text after × (is_number text ≡ true)
 IsToken Word text after = IsPlainRun text after × (is_number text ≡ false)
 IsToken Meta text after = (run : List ℕ) × (text ≡ 33 ∷ run) × IsTrue (list_all is_run_byte run) × (begins is_run_byte after ≡ false)

@@ -1,4 +1,4 @@
--- Names, bare and quoted (LLVM Language Reference, "Identifiers").
+-- GivesName, bare and quoted (LLVM Language Reference, "Identifiers").
 use Rattle.std.specs.Prelude.{◌≡◌, ◌≢◌, ◌⊎◌, ℕ, ◌+◌, ◌*◌, ◌<◌, IsTrue, false, List, [], ◌∷◌, ◌++◌, length}
 use Rattle.std.specs.List.{list_all}
 use Rattle.std.specs.Char.{digit_value}

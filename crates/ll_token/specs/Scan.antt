@@ -5,7 +5,7 @@ use Rattle.ll_token.specs.declared.token.Token.{Token}
 use Rattle.ll_token.specs.declared.token.TokenFault.{TokenFault}
 use Rattle.ll_token.specs.declared.token.TokenKind.TheVariants.{Local}
 use Rattle.ll_token.specs.Bytes.{is_space, line_ends}
-use Rattle.ll_token.specs.Lexemes.{Holds, IsToken, IsFlaw}
+use Rattle.ll_token.specs.Lexemes.{HoldsName, IsToken, IsFlaw}
 
 -- the inside of a comment: no byte of it ends the line
 abbrev pub IsComment : List ℕ → Type 0
@@ -38,13 +38,13 @@ pub record StartsWith (first_line : ℕ) (before bytes : List ℕ) (token : Toke
   pub up_to : read ≡ (before ++ gap) ++ text
 
 -- The bytes behind `before` are these tokens, one after the other, and then `rest`; `read` is all before the rest.
-abbrev pub Leads : (first_line : ℕ) (before bytes : List ℕ) (tokens : List Token) (read rest : List ℕ) → Type 0
-Leads first_line before bytes [] read rest = (read ≡ before) × (rest ≡ bytes)
-Leads first_line before bytes (token ∷ tokens) read rest = (end after : List ℕ) × StartsWith first_line before bytes token end after × Leads first_line end after tokens read rest
+abbrev pub Scans : (first_line : ℕ) (before bytes : List ℕ) (tokens : List Token) (read rest : List ℕ) → Type 0
+Scans first_line before bytes [] read rest = (read ≡ before) × (rest ≡ bytes)
+Scans first_line before bytes (token ∷ tokens) read rest = (end after : List ℕ) × StartsWith first_line before bytes token end after × Scans first_line end after tokens read rest
 
 -- These are the tokens of the text.
 abbrev pub AreTokens : (text : List ℕ) (first_line : ℕ) (tokens : List Token) → Type 0
-AreTokens text first_line tokens = (read rest : List ℕ) × Leads first_line [] text tokens read rest × IsLastGap rest
+AreTokens text first_line tokens = (read rest : List ℕ) × Scans first_line [] text tokens read rest × IsLastGap rest
 
 -- The bytes behind `before` are a gap and then the fault, in what would be the next token.
 pub record StopsAt (first_line : ℕ) (before bytes : List ℕ) (fault : TokenFault) : Type 0 where
@@ -59,7 +59,7 @@ pub record StopsAt (first_line : ℕ) (before bytes : List ℕ) (fault : TokenFa
 
 -- This is the first fault of the text: all before it are tokens.
 abbrev pub IsFirstFault : (text : List ℕ) (first_line : ℕ) (fault : TokenFault) → Type 0
-IsFirstFault text first_line fault = (tokens : List Token) × (read rest : List ℕ) × Leads first_line [] text tokens read rest × StopsAt first_line read rest fault
+IsFirstFault text first_line fault = (tokens : List Token) × (read rest : List ℕ) × Scans first_line [] text tokens read rest × StopsAt first_line read rest fault
 
 -- what is read next behind `before`: a token, only a gap, or a fault
 abbrev pub Follows : (first_line : ℕ) (before bytes : List ℕ) → Result (Option Token) TokenFault → Type 0
@@ -78,12 +78,12 @@ pub record IsTokenOf (text : List ℕ) (token : Token) : Type 0 where
   pub form : IsToken token.kind (text_of text token) (drop token.end text)
 
 -- The bytes of the token hold this name.
-abbrev pub Names : (text : List ℕ) (token : Token) (name : List ℕ) → Type 0
-Names text token name = Holds token.kind (text_of text token) (drop token.end text) name
+abbrev pub GivesName : (text : List ℕ) (token : Token) (name : List ℕ) → Type 0
+GivesName text token name = HoldsName token.kind (text_of text token) (drop token.end text) name
 
 -- The whole text is one local name, and it names this.
 abbrev pub IsLocalName : (text name : List ℕ) → Type 0
-IsLocalName text name = Holds Local text [] name
+IsLocalName text name = HoldsName Local text [] name
 
 -- The tokens' spans lie in this order between the two places, without a common byte; none is empty.
 abbrev pub AreInOrder : (from to : ℕ) → List Token → Type 0

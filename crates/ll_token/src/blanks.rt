@@ -14,7 +14,7 @@ pub struct Blanks {
 }
 
 /// The white space and comments at the front.
-#[tactic(auto, using(crate::proofs::Gaps::gap_more, crate::proofs::Gaps::gap_all, std::proofs::lemmas::Bool::Decides::nat_tests))]
+#[tactic(auto, using(crate::proofs::GapLaws::gap_more, crate::proofs::GapLaws::gap_all, std::proofs::lemmas::Bool::Decides::nat_tests))]
 pub fn blanks_at(bytes: &[u8]) -> Blanks
     requires { length bytes.now < 2 ^ 31 }
     ensures len { result.len ≡ gap_len false bytes.now }

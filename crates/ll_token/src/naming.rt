@@ -4,7 +4,7 @@ ghost use Rattle.std.specs.Prelude.{◌≡◌, ◌<◌, ℕ, List, IfOk, IfSome,
 ghost use Rattle.ll_token.specs.Names.{Writes};
 ghost use Rattle.ll_token.specs.Reading.{body_of};
 ghost use Rattle.ll_token.specs.Lexemes.{has_name};
-ghost use Rattle.ll_token.specs.Scan.{IsTokenOf, Names, IsLocalName};
+ghost use Rattle.ll_token.specs.Scan.{IsTokenOf, GivesName, IsLocalName};
 
 use crate::bytes::{begins_with, without_first, without_last};
 use crate::escapes::unescaped;
@@ -42,8 +42,8 @@ fn body_of(kind: TokenKind, bytes: &[u8]) -> &[u8]
 pub fn name_of(alloc: Global, text: &[u8], token: &Token) -> Result<Name, NoMemory>
     requires of_text { IsTokenOf text.now token.now }
     requires named { IsTrue (has_name token.now.kind) }
-    ensures name { IfOk result (Names text.now token.now) }
-    ensures only { (name : List ℕ) → Names text.now token.now name → IfOk result (λ found. found ≡ name) }
+    ensures name { IfOk result (GivesName text.now token.now) }
+    ensures only { (name : List ℕ) → GivesName text.now token.now name → IfOk result (λ found. found ≡ name) }
 {
     written_name(alloc, body_of(token.kind, token.bytes(text)))
 }

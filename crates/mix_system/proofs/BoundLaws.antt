@@ -12,7 +12,7 @@ use Rattle.mix_system.specs.Lit.{IsWithin, other_side, negated_bound, negation, 
 use Rattle.mix_system.specs.Row.{number_at}
 use Rattle.mix_system.specs.Fits.{term_value, IsTrueAt, IsInRange, IsInRanges}
 use Rattle.mix_system.specs.Bounds.{Entails, IsIn, IsFalseIn, low_bound, high_bound, range_bounds_from, range_bounds, range_end, AreTrueAt}
-use Rattle.mix_system.proofs.Anys.{Any-append_left, Any-append_right, Any-append_cases, Any-here, Any-there, Any-cons_cases, Any-none, Any-weaker, AreAmong, Any-among, Any-with_all}
+use Rattle.mix_system.proofs.AnyLaws.{Any-append_left, Any-append_right, Any-append_cases, Any-here, Any-there, Any-cons_cases, Any-none, Any-weaker, AreAmong, Any-among, Any-with_all}
 
 -- a literal and its negation
 

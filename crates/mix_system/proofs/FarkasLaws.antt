@@ -15,8 +15,8 @@ use Rattle.mix_system.specs.Lit.{IsWithin}
 use Rattle.mix_system.specs.Row.{number_at, product_at, row_value}
 use Rattle.mix_system.specs.Fits.{term_value, IsTrueAt}
 use Rattle.mix_system.specs.Bounds.{IsIn, AreTrueAt}
-use Rattle.mix_system.specs.FarkasSum.{parts_of, coeff_on, signed, weight, bound_weight, FarkasRefutes}
-use Rattle.mix_system.proofs.Products.{add-*ℤ, *ℤ-add, neg_ℤ-*ℤ, *ℤ_assoc, le-*ℤ}
+use Rattle.mix_system.specs.FarkasSum.{parts_of, coeff_on, by_side, weight, bound_weight, FarkasRefutes}
+use Rattle.mix_system.proofs.ProductLaws.{add-*ℤ, *ℤ-add, neg_ℤ-*ℤ, *ℤ_assoc, le-*ℤ}
 use Rattle.mix_system.proofs.BoundLaws.{true_from_IsIn}
 
 -- the sum of each number times its variable's coefficient, where the first number is that of this variable
@@ -43,9 +43,9 @@ pub dot-neg_ℤ : (f : ℕ → ℤ) (first : ℕ) (numbers : List ℤ) → dot (
 dot-neg_ℤ f first [] = refl
 dot-neg_ℤ f first (number ∷ numbers) = omega (arith, ints, neg_ℤ-*ℤ (f first) number, dot-neg_ℤ f (first + 1) numbers)
 
-pub dot-signed : (side : Side) (f : ℕ → ℤ) (first : ℕ) (numbers : List ℤ) → dot (λ var. signed side (f var)) first numbers ≡ signed side (dot f first numbers)
-dot-signed Le f first numbers = refl
-dot-signed Ge f first numbers = dot-neg_ℤ f first numbers
+pub dot-by_side : (side : Side) (f : ℕ → ℤ) (first : ℕ) (numbers : List ℤ) → dot (λ var. by_side side (f var)) first numbers ≡ by_side side (dot f first numbers)
+dot-by_side Le f first numbers = refl
+dot-by_side Ge f first numbers = dot-neg_ℤ f first numbers
 
 pub dot-sum : {X : Type 0} (g : ℕ → X → ℤ) (xs : List X) (first : ℕ) (numbers : List ℤ) → dot (λ var. int_sum_by (g var) xs) first numbers ≡ int_sum_by (λ x. dot (λ var. g var x) first numbers) xs
 dot-sum g [] first numbers = dot-zero (λ var. pos 0) (λ var. refl) first numbers
@@ -88,13 +88,13 @@ parts_of-value rows point (Row row) = refl
 
 -- what a literal with its multiplier comes to at a point
 abbrev pub value_weight : (rows : List (List Part)) (point : List ℤ) → FarkasPart → ℤ
-value_weight rows point part = signed part.lit.side (part.by *ℤ term_value rows point part.lit.term)
+value_weight rows point part = by_side part.lit.side (part.by *ℤ term_value rows point part.lit.term)
 
 dot-weight : (rows : List (List Part)) (point : List ℤ) (part : FarkasPart) → dot (λ var. weight rows var part) 0 point ≡ value_weight rows point part
 dot-weight rows point part =
     let parts = parts_of rows part.lit.term in
-    dot-signed part.lit.side (λ var. part.by *ℤ int_sum_by (coeff_on var) parts) 0 point
-    ∙ ap (λ n. signed part.lit.side n) (dot-times part.by (λ var. int_sum_by (coeff_on var) parts) 0 point ∙ ap (λ n. part.by *ℤ n) (dot-row parts point ∙ parts_of-value rows point part.lit.term))
+    dot-by_side part.lit.side (λ var. part.by *ℤ int_sum_by (coeff_on var) parts) 0 point
+    ∙ ap (λ n. by_side part.lit.side n) (dot-times part.by (λ var. int_sum_by (coeff_on var) parts) 0 point ∙ ap (λ n. part.by *ℤ n) (dot-row parts point ∙ parts_of-value rows point part.lit.term))
 
 -- where all variables cancel out, the values at each point do
 pub values_vanish : (rows : List (List Part)) (point : List ℤ) (parts : List FarkasPart) → ((var : ℕ) → int_sum_by (weight rows var) parts ≡ pos 0) → int_sum_by (value_weight rows point) parts ≡ pos 0
@@ -103,7 +103,7 @@ values_vanish rows point parts vanishes =
     ∙ sym (dot-sum (weight rows) parts 0 point)
     ∙ dot-zero (λ var. int_sum_by (weight rows var) parts) vanishes 0 point
 
-within-times : (side : Side) (by bound value : ℤ) → pos 0 ≤ℤ by → IsWithin side bound value → signed side (by *ℤ value) ≤ℤ signed side (by *ℤ bound)
+within-times : (side : Side) (by bound value : ℤ) → pos 0 ≤ℤ by → IsWithin side bound value → by_side side (by *ℤ value) ≤ℤ by_side side (by *ℤ bound)
 within-times Le by bound value above within = le-*ℤ by value bound above within
 within-times Ge by bound value above within = omega (arith, ints, le-*ℤ by bound value above within)
 

@@ -8,7 +8,7 @@ use Rattle.mix_system.specs.Lit.{negation}
 use Rattle.mix_system.specs.Fits.{IsTrueAt}
 use Rattle.mix_system.specs.Bounds.{IsIn, IsFalseIn, AreTrueAt}
 use Rattle.mix_system.specs.Follows.{Known, LeavesNone, LeavesOne, Propagates, Follows}
-use Rattle.mix_system.proofs.Anys.{Any-here, Any-there, Any-append_cases, Any-cons_cases, Any-with_all}
+use Rattle.mix_system.proofs.AnyLaws.{Any-here, Any-there, Any-append_cases, Any-cons_cases, Any-with_all}
 use Rattle.mix_system.proofs.BoundLaws.{true_or_negation, not_true_from_IsFalseIn, IsIn-cons_cases, IsIn-there, IsIn-first}
 
 -- two boxes say the same

@@ -1,9 +1,9 @@
-pub mod Anys
+pub mod AnyLaws
 pub mod BoundLaws
 pub mod FarkasLaws
 pub mod FollowLaws
-pub mod Products
-pub mod Steps
-pub mod Sums
-pub mod Sizes
-pub mod WellFormed
+pub mod ProductLaws
+pub mod StepLaws
+pub mod SumLaws
+pub mod SizeLaws
+pub mod WellFormedLaws

@@ -23,17 +23,17 @@ abbrev pub coeff_on : ℕ → Part → ℤ
 coeff_on var part = cond (part.var == var) part.coeff (pos 0)
 
 -- `<=` counts with plus, `>=` with minus
-abbrev pub signed : Side → ℤ → ℤ
-signed Le number = number
-signed Ge number = neg_ℤ number
+abbrev pub by_side : Side → ℤ → ℤ
+by_side Le number = number
+by_side Ge number = neg_ℤ number
 
 -- how often a variable counts in a literal that is taken so many times
 abbrev pub weight : List (List Part) → ℕ → FarkasPart → ℤ
-weight rows var part = signed part.lit.side (part.by *ℤ int_sum_by (coeff_on var) (parts_of rows part.lit.term))
+weight rows var part = by_side part.lit.side (part.by *ℤ int_sum_by (coeff_on var) (parts_of rows part.lit.term))
 
 -- the literal's bound, taken so many times
 abbrev pub bound_weight : FarkasPart → ℤ
-bound_weight part = signed part.lit.side (part.by *ℤ part.lit.bound)
+bound_weight part = by_side part.lit.side (part.by *ℤ part.lit.bound)
 
 -- each literal is in the box, all variables cancel out, and the bounds add up to less than 0
 pub record FarkasRefutes (rows : List (List Part)) (box : List Lit) (parts : List FarkasPart) : Type 0 where
@@ -52,7 +52,7 @@ abbrev pub term_steps : Side → (by : ℤ) (sums : ℕ → ℤ) → List Part �
 term_steps side by sums [] = []
 term_steps side by sums (part ∷ parts) =
     (record { op = Times; x = by; y = part.coeff }) ∷ (record { op = sum_op side; x = sums part.var; y = by *ℤ part.coeff })
-    ∷ term_steps side by (λ var. sums var +ℤ signed side (by *ℤ coeff_on var part)) parts
+    ∷ term_steps side by (λ var. sums var +ℤ by_side side (by *ℤ coeff_on var part)) parts
 
 -- The same for a list of literals: each one's term, then its bound's product and the step that puts it to the constant.
 abbrev pub leaf_steps_from : List (List Part) → (sums : ℕ → ℤ) (constant : ℤ) → List FarkasPart → List Excess

@@ -1,3 +1,3 @@
-pub mod Lists
+pub mod ListLaws
 pub mod RefutesLaws
 pub mod ValidLaws

@@ -11,19 +11,19 @@ use Rattle.mix_system.specs.Lit.{negation}
 use Rattle.mix_system.specs.System.{System}
 use Rattle.mix_system.specs.Fits.{Fits, IsTrueAt, term_value}
 use Rattle.mix_system.specs.Bounds.{AreTrueAt, range_bounds, unit_bounds, only_literal}
-use Rattle.mix_system.proofs.WellFormed.{All-slice_get}
+use Rattle.mix_system.proofs.WellFormedLaws.{All-slice_get}
 use Rattle.proof_term.specs.declared.proof.Goal.{Goal}
 use Rattle.proof_term.specs.declared.proof.Goal.TheVariants.{Nothing, AtMost, Below}
 use Rattle.proof_term.specs.declared.step.Step.{Step}
 use Rattle.proof_term.specs.declared.step.Step.TheVariants.{Lemma, Theory, Enter, Leave}
 use Rattle.proof_term.specs.Levels.{Finished, Level, Levels, cuts_of, available, clause_of, known, goal_bounds, cut_clause, box_of}
 use Rattle.proof_term.specs.Steps.{Passes}
-use Rattle.proof_term.specs.Valid.{Reached, at_start, is_empty, ends_empty, has_ended, with_step, after_clause, after_enter, closed, after, MayStand, Takes, IsWhole, ValidFrom}
+use Rattle.proof_term.specs.Valid.{Stage, at_start, is_empty, ends_empty, has_ended, with_step, after_clause, after_enter, closed, after, MayStand, Takes, IsWhole, ValidFrom}
 use Rattle.proof_term.specs.Laws.{Meets}
-use Rattle.mix_system.proofs.Anys.{Any-none, Any-one_holds, Any-here, Any-there}
+use Rattle.mix_system.proofs.AnyLaws.{Any-none, Any-one_holds, Any-here, Any-there}
 use Rattle.mix_system.proofs.BoundLaws.{true_or_negation, range_bounds-true}
 use Rattle.mix_system.proofs.FollowLaws.{Follows-true}
-use Rattle.proof_term.proofs.Lists.{All-flat_map, All-filter_map}
+use Rattle.proof_term.proofs.ListLaws.{All-flat_map, All-filter_map}
 use Rattle.proof_term.proofs.RefutesLaws.{int_cases, no_point}
 
 abbrev pub IsBelow : Goal → Type 0
@@ -49,7 +49,7 @@ pub record IsSound (rows : List (List Part)) (cost : Term) (point : List ℤ) (l
   pub cuts : All (λ f. f.is_cut ≡ true → Holds rows point f.clause) level.finished
   pub own : AreTrueAt rows point (goal_bounds cost level.goal) → All (λ f. Holds rows point f.clause) level.finished
 
-pub record AreSound (rows : List (List Part)) (cost : Term) (point : List ℤ) (at : Reached) : Type 0 where
+pub record AreSound (rows : List (List Part)) (cost : Term) (point : List ℤ) (at : Stage) : Type 0 where
   pub nested : AreNested at.levels.last at.levels.enclosing
   pub last : IsSound rows cost point at.levels.last
   pub enclosing : AllByRecursion (IsSound rows cost point) at.levels.enclosing
@@ -86,7 +86,7 @@ module _ (system : System) (cost : Term) (point : List ℤ) where
   level_meets : (level : Level) → IsSound system.rows cost point level → ends_empty level.finished ≡ true → Meets system.rows cost point level.goal
   level_meets level sound ended = meets_unless_true level.goal (λ is_true. ended_refutes level.finished ended (sound.own is_true))
 
-  available_hold : (at : Reached) → AreSound system.rows cost point at → AreTrueAt system.rows point (goal_bounds cost at.levels.last.goal) → All (λ f. Holds system.rows point f.clause) (available at.levels)
+  available_hold : (at : Stage) → AreSound system.rows cost point at → AreTrueAt system.rows point (goal_bounds cost at.levels.last.goal) → All (λ f. Holds system.rows point f.clause) (available at.levels)
   available_hold at sound is_true =
       let P : Finished → Type 0 = λ f. Holds system.rows point f.clause in
       let Q : Finished → Type 0 = λ f. f.is_cut ≡ true → Holds system.rows point f.clause in
@@ -106,7 +106,7 @@ module _ (system : System) (cost : Term) (point : List ℤ) where
         | inr other ↦ clause_of_holds fs number clause (All-tail P f fs all) (sym (cond-false {A = Option (List Lit)} (f.number == number) (Some f.clause) (clause_of number fs) other) ∙ is)
       ]
 
-  known_holds : (at : Reached) (fits : Fits system point) → AreSound system.rows cost point at → AreTrueAt system.rows point (goal_bounds cost at.levels.last.goal)
+  known_holds : (at : Stage) (fits : Fits system point) → AreSound system.rows cost point at → AreTrueAt system.rows point (goal_bounds cost at.levels.last.goal)
       → (number : ℕ) (clause : List Lit) → known system at.levels number ≡ Some clause → Holds system.rows point clause
   known_holds at fits sound is_true number clause is = elim (cases_Bool (nat_lt number (length system.clauses))) [
     | inl few ↦ All-slice_get (Holds system.rows point) system.clauses number clause
@@ -120,7 +120,7 @@ module _ (system : System) (cost : Term) (point : List ℤ) where
   only_literal_true (first ∷ []) lit is holds = let same : first ≡ lit = cc is in rw (sym same) (Any-one_holds (IsTrueAt system.rows point) first holds)
   only_literal_true (first ∷ other ∷ lits) lit is holds = absurd (cc is)
 
-  box_true : (at : Reached) (fits : Fits system point) → AreSound system.rows cost point at → AreTrueAt system.rows point (goal_bounds cost at.levels.last.goal)
+  box_true : (at : Stage) (fits : Fits system point) → AreSound system.rows cost point at → AreTrueAt system.rows point (goal_bounds cost at.levels.last.goal)
       → AreTrueAt system.rows point (box_of system cost at.levels)
   box_true at fits sound is_true =
       let P = IsTrueAt system.rows point in
@@ -149,7 +149,7 @@ module _ (system : System) (cost : Term) (point : List ℤ) where
     own = λ is_true. All-cons (λ f. Holds system.rows point f.clause) _ level.finished (as_own is_true) (sound.own is_true);
   }
 
-  after_clause_sound : (at : Reached) (clause : List Lit) → AreSound system.rows cost point at
+  after_clause_sound : (at : Stage) (clause : List Lit) → AreSound system.rows cost point at
       → (AreTrueAt system.rows point (goal_bounds cost at.levels.last.goal) → Holds system.rows point clause) → AreSound system.rows cost point (after_clause at clause)
   after_clause_sound at clause sound holds = record {
     nested = AreNested-with_step at.levels.last at.next clause false at.levels.enclosing sound.nested;
@@ -167,7 +167,7 @@ module _ (system : System) (cost : Term) (point : List ℤ) where
         enclosing = outer.1;
       }
 
-  after_sound : (at : Reached) (step : Step) → Fits system point → AreSound system.rows cost point at → Takes system cost at step → AreSound system.rows cost point (after at step)
+  after_sound : (at : Stage) (step : Step) → Fits system point → AreSound system.rows cost point at → Takes system cost at step → AreSound system.rows cost point (after at step)
   after_sound at (Lemma clause hints) fits sound takes = after_clause_sound at clause sound (λ is_true.
       Follows-true system.rows point clause hints (box_of system cost at.levels) (known system at.levels) takes.passes.shows (box_true at fits sound is_true) (known_holds at fits sound is_true))
   after_sound at (Theory clause tree) fits sound takes = after_clause_sound at clause sound (λ is_true.
@@ -192,7 +192,7 @@ module _ (system : System) (cost : Term) (point : List ℤ) where
   closed_meets next last [] here rest = (here, tt)
   closed_meets next last (level ∷ enclosing) here rest = (here, rest)
 
-  pub open_levels_meet : (steps : List Step) (at : Reached) → Fits system point → AreSound system.rows cost point at → ValidFrom system cost at steps → AllMeet at.levels.last at.levels.enclosing
+  pub open_levels_meet : (steps : List Step) (at : Stage) → Fits system point → AreSound system.rows cost point at → ValidFrom system cost at steps → AllMeet at.levels.last at.levels.enclosing
   open_levels_meet [] at fits sound whole = (level_meets at.levels.last sound.last whole.ended, rw whole.outermost tt)
   open_levels_meet (Lemma clause hints ∷ steps) at fits sound v = open_levels_meet steps (after_clause at clause) fits (after_sound at (Lemma clause hints) fits sound v.0) v.1
   open_levels_meet (Theory clause tree ∷ steps) at fits sound v = open_levels_meet steps (after_clause at clause) fits (after_sound at (Theory clause tree) fits sound v.0) v.1
@@ -208,7 +208,7 @@ module _ (system : System) (cost : Term) (point : List ℤ) where
     enclosing = tt;
   }
 
-  pub entered_meets : (steps : List Step) (at : Reached) (k : ℕ) (term : Term) (bound : ℤ) → Fits system point → AreSound system.rows cost point at → ValidFrom system cost at steps
+  pub entered_meets : (steps : List Step) (at : Stage) (k : ℕ) (term : Term) (bound : ℤ) → Fits system point → AreSound system.rows cost point at → ValidFrom system cost at steps
       → k < length steps → get_or steps k (Enter term bound) ≡ Enter term bound → term_value system.rows point term ≤ℤ bound
   entered_meets [] at k term bound fits sound v within is = absurd (omega arith)
   entered_meets (step ∷ steps) at zero term bound fits sound v within is =

@@ -15,8 +15,8 @@ abbrev pub sum_at : (ℕ → ℤ) → Equation → ℤ
 sum_at number equation = total number equation.entries.items
 
 -- the equation holds where each column has a number
-abbrev pub Holds : (ℕ → ℤ) → Equation → Type 0
-Holds number equation = sum_at number equation ≡ pos 0
+abbrev pub Satisfies : (ℕ → ℤ) → Equation → Type 0
+Satisfies number equation = sum_at number equation ≡ pos 0
 
 -- two numbers over their greatest common divisor
 pub record AreInLowestTerms (a b p q : ℤ) : Type 0 where

@@ -5,7 +5,7 @@ ghost use Rattle.tableau_rows.specs.Merge.{BeginsAt, IsSplitOff};
 use crate::Entry;
 
 /// The least column of two lists whose columns rise, `None` where both are empty.
-#[tactic(auto, using(crate::proofs::Fronts::least_first))]
+#[tactic(auto, using(crate::proofs::FrontLaws::least_first))]
 pub(crate) fn least_column(left: &[Entry], right: &[Entry]) -> Option<u32>
     requires left { IsSparse left.now }
     requires right { IsSparse right.now }

@@ -6,10 +6,10 @@ use Rattle.wx_base.specs.Files.{FilesView, AreTold, AreLonger}
 use Rattle.ll_reader.specs.Spells.{Spells}
 use Rattle.ll_reader.specs.Table.{Table}
 use Rattle.ll_reader.specs.declared.first.tree.Func.{Func}
-use Rattle.ll_reader.proofs.OneReading.{one_spelled}
+use Rattle.ll_reader.proofs.OneReadingLaws.{one_spelled}
 use Rattle.ir_interpreter.specs.Run.{widths_of}
 use Rattle.wcet_core.specs.Words.{JobNames}
-use Rattle.wcet_core.specs.Worst.{Holds, IsFile, IsNoFile, IsCosts, IsNoCosts}
+use Rattle.wcet_core.specs.Worst.{StandsUnder, IsFile, IsNoFile, IsCosts, IsNoCosts}
 use Rattle.wcet_core.specs.declared.limits.TheConstants.{FILE_LIMIT, COSTS_LIMIT}
 use Rattle.wcet_core.specs.Says.{Says, SaysOfFile, SaysOfCosts, SaysOfFunc, SaysOfJob, SaysOfWorst, Goes}
 use Rattle.wcet_core.specs.Promises.{IsAfterFile, IsDecided, Decides}
@@ -29,7 +29,7 @@ module _ (told : List ℕ → Option (List ℕ)) where
   one_bytes : (name bytes others : List ℕ) → AreTold (Some told) name bytes → AreTold (Some told) name others → others ≡ bytes
   one_bytes name bytes others are also = same_some others bytes (sym also ∙ are)
 
-  not_longer : (name : List ℕ) (limit : ℕ) (bytes : List ℕ) → Holds (Some told) name limit bytes → AreLonger (Some told) name limit → ⊥
+  not_longer : (name : List ℕ) (limit : ℕ) (bytes : List ℕ) → StandsUnder (Some told) name limit bytes → AreLonger (Some told) name limit → ⊥
   not_longer name limit bytes holds longer =
       let more : limit < length bytes = subst (λ o. IsSomeAnd o (λ all. limit < length all)) holds.told longer in
       omega (arith, more, holds.within)

@@ -35,8 +35,8 @@ abbrev pub is_run : List ℕ → Bool
 is_run name = nat_lt 0 (length name) && list_all is_run_byte name
 
 -- `%` and a local name: as it is where it is a run, and else between quotes
-unfoldable pub name_text : List ℕ → List ℕ
-name_text name = if is_run name then 37 ∷ name else 37 ∷ 34 ∷ (flat_map escaped name ++ 34 ∷ [])
+unfoldable pub printed_name : List ℕ → List ℕ
+printed_name name = if is_run name then 37 ∷ name else 37 ∷ 34 ∷ (flat_map escaped name ++ 34 ∷ [])
 
 -- ---- parts of lines
 
@@ -48,7 +48,7 @@ abbrev pub arg_text : Arg → List ℕ
 arg_text arg = codes " " ++ num_text arg.width arg.value
 
 abbrev pub label_text : List ℕ → List ℕ
-label_text label = codes " " ++ name_text label
+label_text label = codes " " ++ printed_name label
 
 abbrev pub result_text : RetVal → List ℕ
 result_text ret.Void = codes "void"

@@ -6,7 +6,7 @@ use Rattle.wx_base.specs.Files.{FilesView, IsTooLong}
 use Rattle.ll_reader.specs.declared.first.tree.Func.{Func}
 use Rattle.ir_interpreter.specs.Run.{widths_of}
 use Rattle.wcet_core.specs.Words.{JobNames, job_of}
-use Rattle.wcet_core.specs.Worst.{Holds, IsFile, IsNoFile, IsCosts, IsNoCosts, IsWorst}
+use Rattle.wcet_core.specs.Worst.{StandsUnder, IsFile, IsNoFile, IsCosts, IsNoCosts, IsWorst}
 use Rattle.wcet_core.specs.Promises.{AskedNext, IsAfterFile}
 use Rattle.wcet_core.specs.declared.limits.TheConstants.{FILE_LIMIT, COSTS_LIMIT, MOST_BITS}
 use Rattle.wcet_core.specs.declared.words.Job.{Job}
@@ -23,7 +23,7 @@ names job = record { function = job.function.now; file = job.file.now; costs = j
 
 -- these bytes were fetched, and nothing else was asked for
 abbrev pub Fetched : FilesView → FilesView → List ℕ → ℕ → Vec ℕ Global → Type 0
-Fetched old new name limit bytes = Holds old.contents name limit bytes.items × AskedNext name old new
+Fetched old new name limit bytes = StandsUnder old.contents name limit bytes.items × AskedNext name old new
 
 -- What an answer says where it was given over one file: the outside failed, or the file is longer than its
 -- limit, or it isn't of the kind that is read.

@@ -9,8 +9,8 @@ pub record JobNames : Type 0 where
   pub file : List ℕ
   pub costs : List ℕ
 
-abbrev pub names_of : List ℕ → List ℕ → List ℕ → JobNames
-names_of function file costs = record { function = function; file = file; costs = costs }
+abbrev pub names_of_job : List ℕ → List ℕ → List ℕ → JobNames
+names_of_job function file costs = record { function = function; file = file; costs = costs }
 
 -- a byte that is printed and is no blank
 abbrev pub is_word_byte : ℕ → Bool
@@ -34,5 +34,5 @@ job_of [] = None
 job_of (command ∷ []) = None
 job_of (command ∷ function ∷ []) = None
 job_of (command ∷ function ∷ file ∷ []) = None
-job_of (command ∷ function ∷ file ∷ costs ∷ []) = if is_analysis command function file costs then Some (names_of function file costs) else None
+job_of (command ∷ function ∷ file ∷ costs ∷ []) = if is_analysis command function file costs then Some (names_of_job function file costs) else None
 job_of (command ∷ function ∷ file ∷ costs ∷ more ∷ words) = None

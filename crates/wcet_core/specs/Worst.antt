@@ -13,32 +13,32 @@ use Rattle.wcet_core.specs.declared.limits.TheConstants.{FILE_LIMIT, COSTS_LIMIT
 use Rattle.wcet_core.specs.declared.outcome.Witness.{Witness}
 
 -- these bytes stand under the name, and there are no more of them than the limit
-pub record Holds (contents : Contents) (name : List ℕ) (limit : ℕ) (bytes : List ℕ) : Type 0 where
+pub record StandsUnder (contents : Contents) (name : List ℕ) (limit : ℕ) (bytes : List ℕ) : Type 0 where
   pub told : AreTold contents name bytes
   pub within : length bytes ≤ limit
 
 -- the job's file spells this function
 pub record IsFile (contents : Contents) (job : JobNames) (func : Func) : Type 0 where
   pub bytes : List ℕ
-  pub holds : Holds contents job.file FILE_LIMIT bytes
+  pub holds : StandsUnder contents job.file FILE_LIMIT bytes
   pub spells : Spells bytes job.function func
 
 -- the job's file spells no function of the wanted name
 pub record IsNoFile (contents : Contents) (job : JobNames) : Type 0 where
   pub bytes : List ℕ
-  pub holds : Holds contents job.file FILE_LIMIT bytes
+  pub holds : StandsUnder contents job.file FILE_LIMIT bytes
   pub spells_none : (func : Func) → Spells bytes job.function func → ⊥
 
 -- the job's table gives these costs
 pub record IsCosts (contents : Contents) (job : JobNames) (func : Func) (costs : List ℕ) : Type 0 where
   pub bytes : List ℕ
-  pub holds : Holds contents job.costs COSTS_LIMIT bytes
+  pub holds : StandsUnder contents job.costs COSTS_LIMIT bytes
   pub table : Table bytes func costs
 
 -- the job's table is none of this function
 pub record IsNoCosts (contents : Contents) (job : JobNames) (func : Func) : Type 0 where
   pub bytes : List ℕ
-  pub holds : Holds contents job.costs COSTS_LIMIT bytes
+  pub holds : StandsUnder contents job.costs COSTS_LIMIT bytes
   pub no_table : (costs : List ℕ) → Table bytes func costs → ⊥
 
 abbrev pub numbers_of : List Arg → List ℕ

@@ -67,11 +67,11 @@ pub fn words_of(alloc: Global, mut all: Args) -> Result<Words, NoMemory>
     ensures { IfOk result (λ words. words ≡ map string_bytes (drop 1 (into_iter_items all))) }
 {
     let _program = all.next();
-    names_of(alloc, all)
+    words_among(alloc, all)
 }
 
 // The texts as names, in order.
-fn names_of(alloc: Global, texts: Args) -> Result<Words, NoMemory>
+fn words_among(alloc: Global, texts: Args) -> Result<Words, NoMemory>
     ensures { IfOk result (λ names. names ≡ map string_bytes (into_iter_items texts)) }
 {
     let mut names = Sequence::with_capacity(alloc, texts.len())?;

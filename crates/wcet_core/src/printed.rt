@@ -2,7 +2,7 @@ ghost use Rattle.std.specs.Prelude.{◌≡◌, ◌<◌, ◌∷◌, ◌++◌, [],
 ghost use Rattle.std.specs.List.{flat_map, list_all};
 ghost use Rattle.std.specs.Fmt.{decimal};
 ghost use Rattle.ll_reader.specs.Cursor.{is_run_byte};
-ghost use Rattle.wcet_core.specs.Printed.{arg_text, escaped, exact_text, hex_digit, how_text, is_plain, is_run, label_text, line, name_text, num_text, result_text, answer_text, which_text};
+ghost use Rattle.wcet_core.specs.Printed.{arg_text, escaped, exact_text, hex_digit, how_text, is_plain, is_run, label_text, line, printed_name, num_text, result_text, answer_text, which_text};
 
 use crate::{Answer, How, Which, Witness};
 use ir_interpreter::RetVal;
@@ -97,9 +97,9 @@ fn is_run(name: &[u8]) -> bool
     !name.is_empty() && are_run_bytes(name)
 }
 
-#[tactic(auto, unfolding(crate::specs::Printed::name_text))]
+#[tactic(auto, unfolding(crate::specs::Printed::printed_name))]
 fn push_name(text: &mut Vec<u8>, name: &[u8]) -> Result<(), NoMemory>
-    ensures { OnOk result (text.new.items ≡ text.old.items ++ name_text name.now) }
+    ensures { OnOk result (text.new.items ≡ text.old.items ++ printed_name name.now) }
 {
     if is_run(name) {
         push_run(text, name)

@@ -1,7 +1,7 @@
 ghost use Rattle.std.specs.Prelude.{◌≡◌};
 ghost use Rattle.std.specs.List.{list_all};
 ghost use Rattle.std.specs.Option.{option_map};
-ghost use Rattle.wcet_core.specs.Words.{is_word_byte, is_word, names_of, job_of};
+ghost use Rattle.wcet_core.specs.Words.{is_word_byte, is_word, names_of_job, job_of};
 
 use wx_base::{Name, Words};
 
@@ -34,7 +34,7 @@ fn is_word(word: &Name) -> bool
 /// The job of the words `analyse FUNCTION FILE COSTS`. `None` exactly where there are not four words, the
 /// first is another, or a name is no word.
 pub fn job_of(words: &Words) -> Option<Job<'_>>
-    ensures { option_map (λ job. names_of job.function.now job.file.now job.costs.now) result
+    ensures { option_map (λ job. names_of_job job.function.now job.file.now job.costs.now) result
         ≡ job_of words.now }
 {
     let [command, function, file, costs] = words.items() else {

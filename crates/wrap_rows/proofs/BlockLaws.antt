@@ -18,7 +18,7 @@ use Rattle.ll_tree.specs.declared.op.Pred.TheVariants.{Eq, Ne, Ugt, Uge, Ult, Ul
 use Rattle.wrap_rows.specs.Layout.{at_most, at_least}
 use Rattle.wrap_rows.specs.Vars.{IsMark}
 use Rattle.wrap_rows.specs.Blocks.{equals, from_operand, from_listed, closing, marks, less, less_or_equal, greater, greater_or_equal, compared, StandsSo}
-use Rattle.wrap_rows.proofs.Cases.{Each, Some_of, Each-from_All, All-from_Each, Some_of-from_Any, Any-from_Some_of}
+use Rattle.wrap_rows.proofs.CaseLaws.{Each, Some_of, Each-from_All, All-from_Each, Some_of-from_Any, Any-from_Some_of}
 
 -- a mark is 0 or 1
 pub mark_cases : (m : ℤ) → IsMark m → (m ≡ pos 0) ⊎ (m ≡ pos 1)

@@ -15,7 +15,7 @@ use Rattle.mix_system.specs.declared.literal.Side.TheVariants.{Le, Ge}
 use Rattle.mix_system.specs.declared.literal.Lit.{Lit}
 use Rattle.mix_system.specs.System.{IsInner, Exists, IsClause}
 use Rattle.wrap_rows.specs.Normal.{is_same_term, is_same_side, is_same_lit, with_lit, clause_of}
-use Rattle.wrap_rows.proofs.Cases.{by_test, Each, Some_of, All-from_Each}
+use Rattle.wrap_rows.proofs.CaseLaws.{by_test, Each, Some_of, All-from_Each}
 
 -- ---- the test for the same literal
 

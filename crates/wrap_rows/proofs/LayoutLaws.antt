@@ -10,7 +10,7 @@ use Rattle.mix_system.specs.Fits.{IsTrueAt, term_value}
 use Rattle.mix_system.specs.Row.{row_value}
 use Rattle.wrap_rows.specs.Normal.{row_of, clause_of}
 use Rattle.wrap_rows.specs.Layout.{Layout, raised_term, raised, clause_from, IsOfRows, StandsAt, Holds}
-use Rattle.wrap_rows.proofs.Cases.{Each, Some_of, Each-from_All, All-from_Each, Some_of-from_Any, Any-from_Some_of}
+use Rattle.wrap_rows.proofs.CaseLaws.{Each, Some_of, Each-from_All, All-from_Each, Some_of-from_Any, Any-from_Some_of}
 use Rattle.wrap_rows.proofs.ClauseLaws.{clause_of-true, clause_of-said}
 use Rattle.wrap_rows.proofs.SumLaws.{row_of-value}
 

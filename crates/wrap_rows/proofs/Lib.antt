@@ -1,5 +1,5 @@
 pub mod BlockLaws
-pub mod Cases
+pub mod CaseLaws
 pub mod ClauseLaws
 pub mod LayoutLaws
 pub mod SignLaws

@@ -10,10 +10,10 @@ use Rattle.std.proofs.lemmas.List.Sums.{fold_more}
 use Rattle.mix_system.specs.declared.row.Part.{Part}
 use Rattle.mix_system.specs.Row.{number_at, product_at, row_value}
 use Rattle.mix_system.specs.System.{IsRow}
-use Rattle.mix_system.proofs.Products.{add-*ℤ}
-use Rattle.mix_system.proofs.Sizes.{unsigned_abs-add}
+use Rattle.mix_system.proofs.ProductLaws.{add-*ℤ}
+use Rattle.mix_system.proofs.SizeLaws.{unsigned_abs-add}
 use Rattle.wrap_rows.specs.Normal.{unless_zero, merged, lesser_count, with_part, sizes, row_of}
-use Rattle.wrap_rows.proofs.Cases.{by_test, Each, All-from_Each}
+use Rattle.wrap_rows.proofs.CaseLaws.{by_test, Each, All-from_Each}
 
 -- ---- the value
 

@@ -1,2 +1,2 @@
-mod Lookup
-mod Reading
+mod LookupLaws
+mod ReadingLaws

@@ -1,2 +1,2 @@
-pub mod Floor
-pub mod Divisors
+pub mod FloorLaws
+pub mod DivisorLaws

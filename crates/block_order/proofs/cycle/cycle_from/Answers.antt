@@ -1,6 +1,6 @@
 use Rattle.std.proofs.Common.{List, ℕ, nat_lt, length, reverse, subst}
 use Rattle.std.specs.List.{IsFirstBest}
-use Rattle.block_order.proofs.Turning.{closed_from_cut, turned_cycle}
+use Rattle.block_order.proofs.TurnLaws.{closed_from_cut, turned_cycle}
 use Rattle.block_order.proofs.cycle.cycle_from.Goals as goal
 
 pub returns : goal.returns

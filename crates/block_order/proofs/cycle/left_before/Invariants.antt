@@ -1,5 +1,5 @@
 use Rattle.std.specs.List.{AllWithin}
-use Rattle.block_order.proofs.Walking.{IsOther}
+use Rattle.block_order.proofs.WalkLaws.{IsOther}
 use Rattle.block_order.proofs.cycle.left_before.Given as goal
 
 abbrev pub invariant-loop-edge : goal.invariant-loop-edge

@@ -1,7 +1,7 @@
 use Rattle.std.proofs.Common.{◌<◌, length, false, refl, sym, ◌∙◌, arith}
 use Rattle.std.proofs.lemmas.List.{get_or_default}
-use Rattle.block_order.proofs.Taking.{left_falls}
-use Rattle.block_order.proofs.Walking.{walked_first, walked_more}
+use Rattle.block_order.proofs.TakingLaws.{left_falls}
+use Rattle.block_order.proofs.WalkLaws.{walked_first, walked_more}
 use Rattle.block_order.proofs.cycle.walk_back.Goals as goal
 
 pub loop-seen-init : goal.loop-seen-init

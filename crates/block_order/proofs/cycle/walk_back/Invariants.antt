@@ -1,5 +1,5 @@
-use Rattle.block_order.proofs.Taking.{left_of}
-use Rattle.block_order.proofs.Walking.{Walked}
+use Rattle.block_order.proofs.TakingLaws.{left_of}
+use Rattle.block_order.proofs.WalkLaws.{Walked}
 use Rattle.block_order.proofs.cycle.walk_back.Given as goal
 
 abbrev pub invariant-loop-seen : goal.invariant-loop-seen

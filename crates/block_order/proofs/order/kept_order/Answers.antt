@@ -1,7 +1,7 @@
 use Rattle.std.proofs.Common.{◌≡◌, ◌<◌, ℕ, Bool, true, false, List, length, get_or, subst, refl, arith, length-set, length-take, length-append, length-drop}
 use Rattle.block_order.specs.Marks.{IsFirstFree}
-use Rattle.block_order.proofs.Acyclic.{no_cycle}
-use Rattle.block_order.proofs.Taking.{left_falls, taken_first, taken_more, taken_all}
+use Rattle.block_order.proofs.AcyclicLaws.{no_cycle}
+use Rattle.block_order.proofs.TakingLaws.{left_falls, taken_first, taken_more, taken_all}
 use Rattle.block_order.proofs.order.kept_order.Goals as goal
 
 pub loop-block-init : goal.loop-block-init

@@ -1,5 +1,5 @@
 use Rattle.std.proofs.Common.{◌≡◌, length}
-use Rattle.block_order.proofs.Taking.{Taken, left_of}
+use Rattle.block_order.proofs.TakingLaws.{Taken, left_of}
 use Rattle.block_order.proofs.order.kept_order.Given as goal
 
 abbrev pub invariant-loop-block : goal.invariant-loop-block

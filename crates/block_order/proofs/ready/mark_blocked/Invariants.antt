@@ -1,5 +1,5 @@
 use Rattle.std.proofs.Common.{◌≡◌, length}
-use Rattle.block_order.proofs.Blocking.{Blocked}
+use Rattle.block_order.proofs.BlockingLaws.{Blocked}
 use Rattle.block_order.proofs.ready.mark_blocked.Given as goal
 
 abbrev pub invariant-loop-edge : goal.invariant-loop-edge

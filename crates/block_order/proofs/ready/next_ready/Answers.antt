@@ -1,5 +1,5 @@
 use Rattle.std.proofs.Common.{arith}
-use Rattle.block_order.proofs.Blocking.{next_from_open}
+use Rattle.block_order.proofs.BlockingLaws.{next_from_open}
 use Rattle.block_order.proofs.ready.next_ready.Goals as goal
 
 pub returns : goal.returns

@@ -1,4 +1,4 @@
-use Rattle.bounded_simplex.proofs.Coefficients.{cancels_out}
+use Rattle.bounded_simplex.proofs.CoefficientLaws.{cancels_out}
 use Rattle.bounded_simplex.proofs.laws.equations_cancel_out.Goals as goal
 
 pub returns : goal.returns

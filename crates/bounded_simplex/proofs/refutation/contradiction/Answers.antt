@@ -3,7 +3,7 @@ use Rattle.std.specs.Int.{w128}
 use Rattle.std.proofs.lemmas.Int.{ints, to_z-of_z}
 use Rattle.mix_system.specs.declared.literal.Side.TheVariants.{Le, Ge}
 use Rattle.bounded_simplex.specs.InForce.{in_force}
-use Rattle.bounded_simplex.proofs.TwoBounds.{two_refute}
+use Rattle.bounded_simplex.proofs.TwoBoundLaws.{two_refute}
 use Rattle.bounded_simplex.proofs.refutation.contradiction.Goals as goal
 
 pub returns-clause-refutes : goal.returns-clause-refutes

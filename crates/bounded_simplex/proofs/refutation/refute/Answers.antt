@@ -4,7 +4,7 @@ use Rattle.std.proofs.lemmas.Int.{to_z-of_z}
 use Rattle.mix_system.specs.FarkasSum.{bound_weight}
 use Rattle.tableau_rows.specs.declared.entry.Entry.{Entry}
 use Rattle.bounded_simplex.specs.Refutation.{IsPartOf}
-use Rattle.bounded_simplex.proofs.Refuting.{Refuting, refuting_more}
+use Rattle.bounded_simplex.proofs.RefutationLaws.{Refuting, refuting_more}
 use Rattle.bounded_simplex.proofs.refutation.refute.Goals as goal
 
 blank : Entry

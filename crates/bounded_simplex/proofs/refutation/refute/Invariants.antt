@@ -1,5 +1,5 @@
 use Rattle.std.proofs.Common.{take}
-use Rattle.bounded_simplex.proofs.Refuting.{Refuting}
+use Rattle.bounded_simplex.proofs.RefutationLaws.{Refuting}
 use Rattle.bounded_simplex.proofs.refutation.refute.Given as goal
 
 abbrev pub invariant-loop-entry : goal.invariant-loop-entry

@@ -1,6 +1,6 @@
 use Rattle.std.proofs.Common.{◌≢◌, sym, arith}
 use Rattle.std.proofs.lemmas.Bool.Decides.{nat_tests}
-use Rattle.bounded_simplex.proofs.Pivoting.{apart_read, basics_differ}
+use Rattle.bounded_simplex.proofs.PivotLaws.{apart_read, basics_differ}
 use Rattle.bounded_simplex.proofs.tableau.fresh_row.Goals as goal
 
 pub substituted-requires-clause-apart : goal.substituted-requires-clause-apart

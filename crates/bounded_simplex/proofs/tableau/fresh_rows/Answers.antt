@@ -1,7 +1,7 @@
 use Rattle.std.proofs.Common.{◌+◌, ap, length, ◌∙◌, rules, arith}
 use Rattle.std.proofs.lemmas.List.{length_push}
 use Rattle.bounded_simplex.specs.Pivot.{IsFresh}
-use Rattle.bounded_simplex.proofs.Pivoting.{formed_more}
+use Rattle.bounded_simplex.proofs.PivotLaws.{formed_more}
 use Rattle.bounded_simplex.proofs.tableau.fresh_rows.Goals as goal
 
 pub loop-place-preserved : goal.loop-place-preserved

@@ -4,7 +4,7 @@ use Rattle.std.proofs.lemmas.Bool.{false≢true}
 use Rattle.std.proofs.lemmas.List.{get_or_default}
 use Rattle.bound_trail.specs.Edges.{blank_lit}
 use Rattle.bound_trail.specs.Trail.{box}
-use Rattle.clause_search.proofs.Looking.{seen_two, seen_false, seen_left, seen_within, seen_implied}
+use Rattle.clause_search.proofs.LookLaws.{seen_two, seen_false, seen_left, seen_within, seen_implied}
 use Rattle.clause_search.proofs.look.look_at.Goals as goal
 
 place_of_some : (left : Option ℕ) → is_some left ≡ true → (place : ℕ) × (left ≡ Some place)

@@ -1,5 +1,5 @@
 use Rattle.std.specs.List.{AllWithin}
-use Rattle.flow_graph.proofs.Backwards.{IsOther}
+use Rattle.flow_graph.proofs.BackwardLaws.{IsOther}
 use Rattle.flow_graph.proofs.path.before.Given as goal
 
 abbrev pub invariant-loop-edge : goal.invariant-loop-edge

@@ -1,4 +1,4 @@
-use Rattle.flow_graph.proofs.Backwards.{marked_before}
+use Rattle.flow_graph.proofs.BackwardLaws.{marked_before}
 use Rattle.flow_graph.proofs.path.path_to.Goals as goal
 
 pub before-at-requires-clause-exists : goal.before-at-requires-clause-exists

@@ -1,6 +1,6 @@
 use Rattle.std.proofs.Common.{◌≡◌, ℕ, Bool, true, length, length-set, refl, sym, subst, ◌∙◌, arith}
 use Rattle.std.proofs.lemmas.Bool.{false≢true}
-use Rattle.flow_graph.proofs.Marking.{Marked, marked_all, step_past, step_on}
+use Rattle.flow_graph.proofs.MarkingLaws.{Marked, marked_all, step_past, step_on}
 use Rattle.flow_graph.proofs.reach.mark_reached.Goals as goal
 use Rattle.flow_graph.proofs.reach.mark_reached.Goals.{then-edge-without+then-reached-edge, else-edge-without, else-edge-without-via-then-edge-without+else-reached-edge, else-edge-without-via-else-edge-without}
 

@@ -1,4 +1,4 @@
-use Rattle.flow_graph.proofs.Marking.{Marked}
+use Rattle.flow_graph.proofs.MarkingLaws.{Marked}
 use Rattle.std.proofs.Common.{length}
 use Rattle.flow_graph.proofs.reach.mark_reached.Given as goal
 

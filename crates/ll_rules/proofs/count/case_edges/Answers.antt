@@ -1,6 +1,6 @@
 use Rattle.std.proofs.Common.{sym, ◌∙◌, ap}
 use Rattle.ll_tree.specs.declared.block.Case.{Case}
-use Rattle.ll_rules.proofs.Distinct.{case_step}
+use Rattle.ll_rules.proofs.DistinctLaws.{case_step}
 use Rattle.ll_rules.proofs.count.case_edges.Goals as goal
 
 pub loop-at-preserved : goal.loop-at-preserved

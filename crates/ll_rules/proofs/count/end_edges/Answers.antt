@@ -1,6 +1,6 @@
 use Rattle.std.proofs.Common.{◌∙◌, ap}
 use Rattle.ll_rules.specs.Limits.{held}
-use Rattle.ll_rules.proofs.Distinct.{switch_edges}
+use Rattle.ll_rules.proofs.DistinctLaws.{switch_edges}
 use Rattle.ll_rules.proofs.count.end_edges.Goals as goal
 
 pub returns-in-Switch : goal.returns-in-Switch

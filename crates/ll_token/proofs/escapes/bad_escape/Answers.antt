@@ -1,6 +1,6 @@
 use Rattle.std.proofs.Common.{◌<◌, ◌≤◌, length, sym, arith}
 use Rattle.std.proofs.lemmas.Bool.{eqb-true}
-use Rattle.ll_token.proofs.Pieces.{goes_on, within, stops, ends_well, some_left}
+use Rattle.ll_token.proofs.PieceLaws.{goes_on, within, stops, ends_well, some_left}
 use Rattle.ll_token.proofs.escapes.bad_escape.Goals as goal
 
 pub loop-rest-preserved : goal.loop-rest-preserved

@@ -1,5 +1,5 @@
 use Rattle.std.proofs.Common.{length}
-use Rattle.ll_token.proofs.Pieces.{ReadUpTo}
+use Rattle.ll_token.proofs.PieceLaws.{ReadUpTo}
 use Rattle.ll_token.proofs.escapes.bad_escape.Given as goal
 
 abbrev pub invariant-loop-rest : goal.invariant-loop-rest

@@ -1,5 +1,5 @@
 use Rattle.std.proofs.Common.{sym}
-use Rattle.ll_token.proofs.Pieces.{piece_of, StandsFor-push, whole_name}
+use Rattle.ll_token.proofs.PieceLaws.{piece_of, StandsFor-push, whole_name}
 use Rattle.ll_token.proofs.escapes.unescaped.Goals as goal
 
 pub loop-byte-preserved : goal.loop-byte-preserved

@@ -1,5 +1,5 @@
 use Rattle.std.proofs.Common.{ℕ, List, Some, ap}
-use Rattle.ll_token.proofs.TokenNames.{body_is_name, is_named, only_name, not_read, not_whole}
+use Rattle.ll_token.proofs.TokenNameLaws.{body_is_name, is_named, only_name, not_read, not_whole}
 use Rattle.ll_token.proofs.naming.local_name.Goals as goal
 
 pub returns-in_default-clause-only : goal.returns-in_default-clause-only

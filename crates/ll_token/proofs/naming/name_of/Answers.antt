@@ -1,4 +1,4 @@
-use Rattle.ll_token.proofs.TokenNames.{body_gives, only_gives}
+use Rattle.ll_token.proofs.TokenNameLaws.{body_gives, only_gives}
 use Rattle.ll_token.proofs.naming.name_of.Goals as goal
 
 pub returns-clause-name : goal.returns-clause-name

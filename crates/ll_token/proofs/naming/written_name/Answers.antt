@@ -1,4 +1,4 @@
-use Rattle.ll_token.proofs.TokenNames.{quoted_gives}
+use Rattle.ll_token.proofs.TokenNameLaws.{quoted_gives}
 use Rattle.ll_token.proofs.naming.written_name.Goals as goal
 
 pub returns-then-begins_with : goal.returns-then-begins_with

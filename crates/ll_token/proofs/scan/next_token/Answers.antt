@@ -1,5 +1,5 @@
 use Rattle.std.proofs.Common.{arith}
-use Rattle.ll_token.proofs.Scanning.{ends_here, lexeme_bound, flaw_bound, token_here, fault_here}
+use Rattle.ll_token.proofs.ScanLaws.{ends_here, lexeme_bound, flaw_bound, token_here, fault_here}
 use Rattle.ll_token.proofs.scan.next_token.Goals as goal
 
 pub returns-then-is_empty : goal.returns-then-is_empty

@@ -1,4 +1,4 @@
-use Rattle.ll_token.proofs.Scanning.{some_answer, one_list, one_fault, not_both}
+use Rattle.ll_token.proofs.ScanLaws.{some_answer, one_list, one_fault, not_both}
 use Rattle.ll_token.proofs.scan.one_answer.Goals as goal
 
 pub returns-clause-some : goal.returns-clause-some

@@ -1,5 +1,5 @@
 use Rattle.std.proofs.Common.{take, drop, arith}
-use Rattle.ll_token.proofs.Scanning.{reads_on}
+use Rattle.ll_token.proofs.ScanLaws.{reads_on}
 use Rattle.ll_token.proofs.scan.scan.Goals as goal
 
 pub loop-token-smaller : goal.loop-token-smaller

@@ -1,5 +1,5 @@
 use Rattle.std.proofs.Common.{◌-◌, length}
-use Rattle.ll_token.proofs.Scanning.{ReadTo}
+use Rattle.ll_token.proofs.ScanLaws.{ReadTo}
 use Rattle.ll_token.proofs.scan.scan.Given as goal
 
 abbrev pub invariant-loop-token : goal.invariant-loop-token

@@ -1,4 +1,4 @@
-use Rattle.ll_token.proofs.Scanning.{only_tokens, only_fault, answer_in_order, answer_each}
+use Rattle.ll_token.proofs.ScanLaws.{only_tokens, only_fault, answer_in_order, answer_each}
 use Rattle.ll_token.proofs.scan.tokens.Goals as goal
 
 pub returns-clause-only_tokens : goal.returns-clause-only_tokens

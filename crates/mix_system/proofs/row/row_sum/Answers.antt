@@ -4,8 +4,8 @@ use Rattle.std.proofs.lemmas.Int.{to_z-of_z}
 use Rattle.std.proofs.lemmas.Result.{err_from_is_err_and}
 use Rattle.mix_system.specs.declared.row.Part.{Part}
 use Rattle.mix_system.specs.Row.{number_at, product_at, row_value}
-use Rattle.mix_system.proofs.Steps.{IsStepOf_product, IsStepOf_sum}
-use Rattle.mix_system.proofs.Sums.{int_sum_by_more}
+use Rattle.mix_system.proofs.StepLaws.{IsStepOf_product, IsStepOf_sum}
+use Rattle.mix_system.proofs.SumLaws.{int_sum_by_more}
 use Rattle.mix_system.proofs.row.row_sum.Goals as goal
 
 blank : Part

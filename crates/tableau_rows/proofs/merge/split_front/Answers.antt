@@ -3,7 +3,7 @@ use Rattle.std.specs.Int.{w128}
 use Rattle.std.proofs.lemmas.Int.{to_z-of_z}
 use Rattle.std.proofs.lemmas.Bool.Decides.{nat_tests}
 use Rattle.tableau_rows.specs.declared.entry.Entry.{Entry}
-use Rattle.tableau_rows.proofs.Fronts.{split_none, split_first}
+use Rattle.tableau_rows.proofs.FrontLaws.{split_none, split_first}
 use Rattle.tableau_rows.proofs.merge.split_front.Goals as goal
 
 blank : Entry

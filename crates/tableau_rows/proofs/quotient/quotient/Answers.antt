@@ -2,7 +2,7 @@ use Rattle.std.proofs.Common.{◌≡◌, ◌<◌, ◌^◌, pos, arith}
 use Rattle.std.specs.Int.{w128}
 use Rattle.std.proofs.lemmas.Int.{ints, to_z-of_z, to_z_pos, quot_fits}
 use Rattle.std.proofs.lemmas.Bool.Decides.{nat_tests}
-use Rattle.tableau_rows.proofs.Quotients.{divisor_at_most, divisor_positive, least_number, exact_quotient}
+use Rattle.tableau_rows.proofs.QuotientLaws.{divisor_at_most, divisor_positive, least_number, exact_quotient}
 use Rattle.tableau_rows.proofs.quotient.quotient.Goals as goal
 
 pub returns-then-divisor : goal.returns-then-divisor

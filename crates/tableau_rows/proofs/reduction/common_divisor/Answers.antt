@@ -4,7 +4,7 @@ use Rattle.std.proofs.lemmas.Int.{to_z-of_z}
 use Rattle.std.proofs.lemmas.List.{take_all}
 use Rattle.std.proofs.lemmas.List.Elements.{All-same}
 use Rattle.tableau_rows.specs.declared.entry.Entry.{Entry}
-use Rattle.tableau_rows.proofs.Divided.{Divides, divides_more, greatest_more}
+use Rattle.tableau_rows.proofs.DivisionLaws.{Divides, divides_more, greatest_more}
 use Rattle.tableau_rows.proofs.reduction.common_divisor.Goals as goal
 
 blank : Entry

@@ -2,7 +2,7 @@ use Rattle.std.proofs.Common.{◌∙◌, FitsSigned, sym, subst, rules, arith}
 use Rattle.std.specs.Int.{w128}
 use Rattle.std.proofs.lemmas.Int.{to_z-of_z}
 use Rattle.std.proofs.lemmas.List.{length-set}
-use Rattle.tableau_rows.proofs.Divided.{Divides, divided_more, divided_kept}
+use Rattle.tableau_rows.proofs.DivisionLaws.{Divides, divided_more, divided_kept}
 use Rattle.tableau_rows.proofs.reduction.divided.Goals as goal
 
 pub quotient-requires-clause-divides : goal.quotient-requires-clause-divides

@@ -3,8 +3,8 @@ use Rattle.std.specs.Int.{w128}
 use Rattle.std.proofs.lemmas.Int.{to_z-of_z}
 use Rattle.std.proofs.lemmas.Bool.Decides.{nat_tests}
 use Rattle.tableau_rows.specs.declared.entry.Entry.{Entry}
-use Rattle.tableau_rows.proofs.Totals.{coefficient_at}
-use Rattle.tableau_rows.proofs.Searched.{below_middle, above_middle, none_left}
+use Rattle.tableau_rows.proofs.TotalLaws.{coefficient_at}
+use Rattle.tableau_rows.proofs.SearchLaws.{below_middle, above_middle, none_left}
 use Rattle.tableau_rows.proofs.solved.coefficient_of.Goals as goal
 
 blank : Entry

@@ -7,7 +7,7 @@ use Rattle.mix_system.specs.Row.{number_at}
 use Rattle.tableau_rows.specs.declared.entry.Entry.{Entry}
 use Rattle.tableau_rows.specs.Equation.{total}
 use Rattle.tableau_rows.specs.Turning.{others}
-use Rattle.tableau_rows.proofs.Others.{total_others_skip, total_others_more, IsSumStep_product, IsSumStep_sum}
+use Rattle.tableau_rows.proofs.OtherLaws.{total_others_skip, total_others_more, IsSumStep_product, IsSumStep_sum}
 use Rattle.tableau_rows.proofs.solved.sum_of_others.Goals as goal
 
 blank : Entry

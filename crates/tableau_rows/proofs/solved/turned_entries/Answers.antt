@@ -2,8 +2,8 @@ use Rattle.std.proofs.Common.{[], ◌∷◌, ◌++◌, get_or, pos, FitsSigned, 
 use Rattle.std.specs.Int.{w128}
 use Rattle.std.proofs.lemmas.Int.{to_z-of_z}
 use Rattle.tableau_rows.specs.declared.entry.Entry.{Entry}
-use Rattle.tableau_rows.proofs.Totals.{coefficient_at}
-use Rattle.tableau_rows.proofs.Turned.{turned_more}
+use Rattle.tableau_rows.proofs.TotalLaws.{coefficient_at}
+use Rattle.tableau_rows.proofs.TurnLaws.{turned_more}
 use Rattle.tableau_rows.proofs.solved.turned_entries.Goals as goal
 
 blank : Entry

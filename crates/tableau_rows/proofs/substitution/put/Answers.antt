@@ -1,6 +1,6 @@
 use Rattle.std.proofs.Common.{ap, ◌∙◌}
 use Rattle.tableau_rows.specs.Equation.{total}
-use Rattle.tableau_rows.proofs.Totals.{total_push}
+use Rattle.tableau_rows.proofs.TotalLaws.{total_push}
 use Rattle.tableau_rows.proofs.substitution.put.Goals as goal
 
 pub returns-in_ok-push-clause-sums : goal.returns-in_ok-push-clause-sums

@@ -4,7 +4,7 @@ use Rattle.mix_system.specs.System.{IsInner, Exists}
 use Rattle.mix_system.specs.declared.literal.Term.TheVariants.{Var}
 use Rattle.wrap_rows.specs.Layout.{at_most}
 use Rattle.wrap_rows.specs.Normal.{with_lit, clause_of}
-use Rattle.wrap_rows.proofs.Cases.{Each-from_All}
+use Rattle.wrap_rows.proofs.CaseLaws.{Each-from_All}
 use Rattle.wrap_rows.proofs.ClauseLaws.{clause_of-none, clause_of-more, clause_of-IsClause}
 use Rattle.wrap_rows.proofs.normal.add_lits.Goals as goal
 

@@ -2,7 +2,7 @@ use Rattle.std.proofs.Common.{◌<◌, ◌+◌, ◌∙◌, sym, ap, pos, length,
 use Rattle.std.proofs.lemmas.List.{take_all}
 use Rattle.wrap_rows.specs.Layout.{times}
 use Rattle.wrap_rows.specs.Normal.{with_part, row_of}
-use Rattle.wrap_rows.proofs.Cases.{Each-from_All}
+use Rattle.wrap_rows.proofs.CaseLaws.{Each-from_All}
 use Rattle.wrap_rows.proofs.SumLaws.{row_of-none, row_of-more, row_of-IsRow, sizes-more, sizes-take, sizes-with_part}
 use Rattle.wrap_rows.proofs.normal.add_sum.Goals as goal
 

@@ -1,6 +1,6 @@
 use Rattle.std.proofs.Common.{◌≡◌, ◌<◌, arith, length, subst}
 use Rattle.std.specs.Prelude.{IfSome}
-use Rattle.wx_base.proofs.Reading.{all_left}
+use Rattle.wx_base.proofs.ReadingLaws.{all_left}
 use Rattle.wx_base.proofs.host_files.read_within.Goals as goal
 
 pub returns-in-Ok-clause-all : goal.returns-in-Ok-clause-all

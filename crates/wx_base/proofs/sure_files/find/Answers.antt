@@ -1,6 +1,6 @@
 use Rattle.std.proofs.Common.{sym, ◌∙◌}
 use Rattle.std.proofs.lemmas.Bool.{false≢true}
-use Rattle.wx_base.proofs.Lookup.{first_with-found, first_with-passed, first_with-end}
+use Rattle.wx_base.proofs.LookupLaws.{first_with-found, first_with-passed, first_with-end}
 use Rattle.wx_base.proofs.sure_files.find.Goals as goal
 
 pub returns-then-same : goal.returns-then-same

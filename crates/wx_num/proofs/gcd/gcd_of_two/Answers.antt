@@ -1,5 +1,5 @@
 use Rattle.std.proofs.Common.{arith}
-use Rattle.wx_num.proofs.Divisors.{without_twos-odd, twos_back}
+use Rattle.wx_num.proofs.DivisorLaws.{without_twos-odd, twos_back}
 use Rattle.wx_num.proofs.gcd.gcd_of_two.Goals as goal
 
 pub gcd_with_odd-requires : goal.gcd_with_odd-requires

@@ -1,6 +1,6 @@
 use Rattle.std.proofs.Common.{arith}
 use Rattle.std.proofs.lemmas.Nat.Gcd.{IsGcd-from_zero}
-use Rattle.wx_num.proofs.Divisors.{turn}
+use Rattle.wx_num.proofs.DivisorLaws.{turn}
 use Rattle.wx_num.proofs.gcd.gcd_with_odd_word.Goals as goal
 
 pub loop-rest-preserved : goal.loop-rest-preserved

@@ -6,7 +6,7 @@ use Rattle.std.proofs.lemmas.Option.{get_or_from_slice_get}
 use Rattle.mix_system.specs.System.{Exists}
 use Rattle.bounded_simplex.specs.StoredBounds.{AreEnds, AreReplaced, lits_of}
 use Rattle.bounded_simplex.specs.declared.bounds.Change.{Change}
-use Rattle.bounded_simplex.proofs.FirstBounds.{pair_count, stand_more, stand_kept, none_kept, first_ends}
+use Rattle.bounded_simplex.proofs.FirstBoundLaws.{pair_count, stand_more, stand_kept, none_kept, first_ends}
 use Rattle.bounded_simplex.proofs.bounds.Bounds.new.Goals as goal
 
 pub loop-var-preserved : goal.loop-var-preserved

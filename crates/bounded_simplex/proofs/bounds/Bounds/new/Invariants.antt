@@ -1,5 +1,5 @@
 use Rattle.std.proofs.Common.{◌≡◌, ℕ, ◌+◌, ◌*◌, ◌<◌, ◌≤◌, length, get_or, None}
-use Rattle.bounded_simplex.proofs.FirstBounds.{RangesStand}
+use Rattle.bounded_simplex.proofs.FirstBoundLaws.{RangesStand}
 use Rattle.bounded_simplex.proofs.bounds.Bounds.new.Given as goal
 
 abbrev pub invariant-loop-var : goal.invariant-loop-var

@@ -7,7 +7,7 @@ use Rattle.mix_system.specs.System.{Exists}
 use Rattle.bounded_simplex.specs.BoundPlaces.{place_of}
 use Rattle.bounded_simplex.specs.StoredBounds.{AreReplaced, lits_of}
 use Rattle.bounded_simplex.specs.declared.bounds.Change.{Change}
-use Rattle.bounded_simplex.proofs.BoundLists.{stored_put, replaced_push}
+use Rattle.bounded_simplex.proofs.BoundListLaws.{stored_put, replaced_push}
 use Rattle.bounded_simplex.proofs.bounds.Bounds.put.Goals as goal
 
 pub invariant_of-self : goal.invariant_of-self

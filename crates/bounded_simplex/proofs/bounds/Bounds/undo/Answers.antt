@@ -2,7 +2,7 @@ use Rattle.std.proofs.Common.{◌≡◌, ap, subst, ◌∙◌, length, arith}
 use Rattle.std.proofs.lemmas.List.{length-set, length_push}
 use Rattle.bounded_simplex.specs.BoundPlaces.{place_of}
 use Rattle.bounded_simplex.specs.StoredBounds.{AreReplaced}
-use Rattle.bounded_simplex.proofs.BoundLists.{stored_undo, known_front, replaced_front}
+use Rattle.bounded_simplex.proofs.BoundListLaws.{stored_undo, known_front, replaced_front}
 use Rattle.bounded_simplex.proofs.bounds.Bounds.undo.Goals as goal
 
 pub invariant_of-self : goal.invariant_of-self

@@ -1,6 +1,6 @@
 use Rattle.std.proofs.Common.{ap}
 use Rattle.tableau_rows.specs.declared.equation.Equation.{Equation}
-use Rattle.bounded_simplex.proofs.Pivoting.{read_at}
+use Rattle.bounded_simplex.proofs.PivotLaws.{read_at}
 use Rattle.bounded_simplex.proofs.tableau.Tableau.basic.Goals as goal
 
 pub returns : goal.returns

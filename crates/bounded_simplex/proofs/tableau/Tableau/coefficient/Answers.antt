@@ -3,7 +3,7 @@ use Rattle.std.specs.Int.{w128}
 use Rattle.std.proofs.lemmas.Int.{to_z-of_z}
 use Rattle.tableau_rows.specs.declared.equation.Equation.{Equation}
 use Rattle.tableau_rows.specs.Substitution.{taken}
-use Rattle.bounded_simplex.proofs.Pivoting.{read_at}
+use Rattle.bounded_simplex.proofs.PivotLaws.{read_at}
 use Rattle.bounded_simplex.proofs.tableau.Tableau.coefficient.Goals as goal
 
 pub returns : goal.returns

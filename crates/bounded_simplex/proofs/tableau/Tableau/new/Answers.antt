@@ -1,5 +1,5 @@
 use Rattle.std.proofs.Common.{◌≡◌, length, arith}
-use Rattle.bounded_simplex.proofs.FirstTableau.{first_tableau}
+use Rattle.bounded_simplex.proofs.FirstTableauLaws.{first_tableau}
 use Rattle.bounded_simplex.proofs.tableau.Tableau.new.Goals as goal
 
 pub returns-clause-tableau_of : goal.returns-clause-tableau_of

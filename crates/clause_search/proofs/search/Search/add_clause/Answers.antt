@@ -3,7 +3,7 @@ use Rattle.std.proofs.lemmas.List.{length_push}
 use Rattle.std.proofs.lemmas.List.Elements.{All-push}
 use Rattle.mix_system.specs.System.{IsClause}
 use Rattle.clause_search.specs.Stored.{lists}
-use Rattle.clause_search.proofs.Reasons.{AreReasons-add}
+use Rattle.clause_search.proofs.ReasonLaws.{AreReasons-add}
 use Rattle.clause_search.proofs.search.Search.add_clause.Goals as goal
 
 pub invariant_of-self-2 : goal.invariant_of-self-2

@@ -2,7 +2,7 @@ use Rattle.std.proofs.Common.{◌≡◌, ◌≤◌, ◌∙◌, length, take, ap}
 use Rattle.std.proofs.lemmas.List.{length-take-le}
 use Rattle.bound_trail.specs.Trail.{level_end}
 use Rattle.clause_search.specs.Stored.{lists}
-use Rattle.clause_search.proofs.Reasons.{AreReasons-cut, level_end_within}
+use Rattle.clause_search.proofs.ReasonLaws.{AreReasons-cut, level_end_within}
 use Rattle.clause_search.proofs.search.Search.back_to.Goals as goal
 
 pub invariant_of-self : goal.invariant_of-self

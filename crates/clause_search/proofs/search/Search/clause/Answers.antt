@@ -1,6 +1,6 @@
 use Rattle.std.proofs.Common.{length}
 use Rattle.mix_system.specs.System.{IsClause}
-use Rattle.mix_system.proofs.WellFormed.{All-slice_get}
+use Rattle.mix_system.proofs.WellFormedLaws.{All-slice_get}
 use Rattle.clause_search.proofs.search.Search.clause.Goals as goal
 
 pub returns-clause-clause : goal.returns-clause-clause

@@ -5,7 +5,7 @@ use Rattle.std.proofs.lemmas.List.Elements.{Contains-push}
 use Rattle.bound_trail.specs.Trail.{Trail}
 use Rattle.clause_search.specs.Search.{Search}
 use Rattle.clause_search.specs.Stored.{lists, AreReasons}
-use Rattle.clause_search.proofs.Reasons.{AreReasons-open, AreReasons-push}
+use Rattle.clause_search.proofs.ReasonLaws.{AreReasons-open, AreReasons-push}
 use Rattle.clause_search.proofs.search.Search.decide.Goals as goal
 
 pub invariant_of-self-in_err-push : goal.invariant_of-self-in_err-push

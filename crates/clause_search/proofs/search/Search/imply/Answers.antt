@@ -1,7 +1,7 @@
 use Rattle.std.proofs.Common.{◌≡◌, [], ◌∷◌, ◌++◌, Some, arith}
 use Rattle.std.proofs.lemmas.Grind.{common_steps}
 use Rattle.clause_search.specs.Stored.{lists}
-use Rattle.clause_search.proofs.Reasons.{AreReasons-push}
+use Rattle.clause_search.proofs.ReasonLaws.{AreReasons-push}
 use Rattle.clause_search.proofs.search.Search.imply.Goals as goal
 
 pub invariant_of-self-else-is_err : goal.invariant_of-self-else-is_err

@@ -1,7 +1,7 @@
 use Rattle.std.proofs.Common.{◌+◌, sym, subst, arith}
 use Rattle.clause_search.specs.Passed.{IsGoing}
 use Rattle.clause_search.specs.declared.propagate.Pass.{Pass}
-use Rattle.clause_search.proofs.Propagation.{propagated_trans, going_still, going_moved, going_ends}
+use Rattle.clause_search.proofs.PropagationLaws.{propagated_trans, going_still, going_moved, going_ends}
 use Rattle.clause_search.proofs.search.Search.pass.Goals as goal
 use Rattle.clause_search.proofs.search.Search.pass.Goals.{in-Still, in-Moved}
 

@@ -1,4 +1,4 @@
-use Rattle.clause_search.proofs.Propagation.{propagated_trans}
+use Rattle.clause_search.proofs.PropagationLaws.{propagated_trans}
 use Rattle.clause_search.proofs.search.Search.propagate.Goals as goal
 
 pub returns-in-Still-clause-propagated : goal.returns-in-Still-clause-propagated

@@ -1,6 +1,6 @@
 use Rattle.std.proofs.Common.{◌≡◌, ◌++◌, length, ap, ◌∙◌, arith}
 use Rattle.std.proofs.lemmas.Result.{err_from_is_err_and}
-use Rattle.clause_search.proofs.Spans.{parts-append, parts-push}
+use Rattle.clause_search.proofs.SpanLaws.{parts-append, parts-push}
 use Rattle.clause_search.proofs.store.ClauseStore.add.Goals as goal
 
 pub returns-in_err-push-clause-err : goal.returns-in_err-push-clause-err

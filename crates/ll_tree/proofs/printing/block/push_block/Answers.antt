@@ -1,5 +1,5 @@
 use Rattle.std.proofs.lemmas.Result.{IfOk-equal}
-use Rattle.ll_tree.proofs.Texts.{written-block}
+use Rattle.ll_tree.proofs.TextLaws.{written-block}
 use Rattle.ll_tree.proofs.printing.block.push_block.Goals as goal
 
 pub returns : goal.returns

@@ -1,7 +1,7 @@
 use Rattle.std.proofs.Common.{refl}
 use Rattle.std.proofs.lemmas.Result.{IfOk-equal}
 use Rattle.ll_tree.specs.Text.{entry_pieces}
-use Rattle.ll_tree.proofs.Texts.{separated_from}
+use Rattle.ll_tree.proofs.TextLaws.{separated_from}
 use Rattle.ll_tree.proofs.printing.block.push_entries.Goals as goal
 
 pub returns-in_ok-push_entry-in-len1-up : goal.returns-in_ok-push_entry-in-len1-up

@@ -1,4 +1,4 @@
-use Rattle.ll_tree.proofs.Texts.{printed}
+use Rattle.ll_tree.proofs.TextLaws.{printed}
 use Rattle.ll_tree.proofs.printing.func.print.Goals as goal
 
 pub returns : goal.returns

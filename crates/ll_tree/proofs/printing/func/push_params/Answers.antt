@@ -1,7 +1,7 @@
 use Rattle.std.proofs.Common.{refl}
 use Rattle.std.proofs.lemmas.Result.{IfOk-equal}
 use Rattle.ll_tree.specs.Text.{param_pieces}
-use Rattle.ll_tree.proofs.Texts.{separated_from}
+use Rattle.ll_tree.proofs.TextLaws.{separated_from}
 use Rattle.ll_tree.proofs.printing.func.push_params.Goals as goal
 
 pub returns-in_ok-push_param-in-len1-up : goal.returns-in_ok-push_param-in-len1-up

@@ -1,7 +1,7 @@
 use Rattle.std.proofs.Common.{[], ◌∷◌, ◌++◌, map, ap, ◌∙◌}
 use Rattle.std.proofs.lemmas.List.{map-append}
 use Rattle.mix_system.specs.Stored.{lists}
-use Rattle.mix_system.proofs.WellFormed.{IsWellFormed-add_clause}
+use Rattle.mix_system.proofs.WellFormedLaws.{IsWellFormed-add_clause}
 use Rattle.mix_system.proofs.system.System.add_clause.Goals as goal
 
 pub invariant_of-self-2 : goal.invariant_of-self-2

@@ -1,6 +1,6 @@
 use Rattle.std.proofs.lemmas.Int.{to_z-of_z}
 use Rattle.mix_system.specs.Stored.{lists}
-use Rattle.mix_system.proofs.WellFormed.{IsWellFormed-add_var}
+use Rattle.mix_system.proofs.WellFormedLaws.{IsWellFormed-add_var}
 use Rattle.mix_system.proofs.system.System.add_var.Goals as goal
 
 pub invariant_of-self-2 : goal.invariant_of-self-2

@@ -6,8 +6,8 @@ use Rattle.std.proofs.lemmas.List.Elements.{All-more, All-same}
 use Rattle.std.proofs.lemmas.Option.{get_or_from_slice_get}
 use Rattle.mix_system.specs.System.{IsWellFormed}
 use Rattle.mix_system.specs.Fits.{IsTrueAt}
-use Rattle.mix_system.proofs.Sizes.{calm_has_no_excess}
-use Rattle.mix_system.proofs.WellFormed.{All-slice_get}
+use Rattle.mix_system.proofs.SizeLaws.{calm_has_no_excess}
+use Rattle.mix_system.proofs.WellFormedLaws.{All-slice_get}
 use Rattle.mix_system.proofs.system.System.holds.Goals as goal
 
 pub returns-in_err-has_true_literal-clause-calm : goal.returns-in_err-has_true_literal-clause-calm

@@ -2,7 +2,7 @@ use Rattle.std.proofs.Common.{◌<◌, length, arith}
 use Rattle.std.proofs.lemmas.Grind.{common_steps}
 use Rattle.mix_system.specs.Stored.{lists}
 use Rattle.mix_system.specs.System.{IsRow}
-use Rattle.mix_system.proofs.WellFormed.{All-slice_get, slice_get-map_read}
+use Rattle.mix_system.proofs.WellFormedLaws.{All-slice_get, slice_get-map_read}
 use Rattle.mix_system.proofs.system.System.row.Goals as goal
 
 pub returns-clause-well_formed : goal.returns-clause-well_formed

@@ -1,7 +1,7 @@
 use Rattle.std.proofs.Common.{ℕ, List, Bor, ◌∙◌}
 use Rattle.std.proofs.lemmas.List.{length-map}
 use Rattle.op_table.specs.Rows.{rows_of}
-use Rattle.op_table.proofs.Places.{position-rows_of, finds_within, finds_first, finds_all, finds_back}
+use Rattle.op_table.proofs.PlaceLaws.{position-rows_of, finds_within, finds_first, finds_all, finds_back}
 use Rattle.op_table.proofs.word_table.WordTable.find.Goals as goal
 
 pub returns-clause-within : goal.returns-clause-within

@@ -1,7 +1,7 @@
 use Rattle.std.proofs.Common.{[], ◌∷◌, ◌++◌, map, negsuc, ap, ◌∙◌, arith}
 use Rattle.std.proofs.lemmas.List.{take_all}
 use Rattle.tableau_rows.specs.Turning.{entry_of}
-use Rattle.tableau_rows.proofs.FirstRows.{row_solved}
+use Rattle.tableau_rows.proofs.FirstRowLaws.{row_solved}
 use Rattle.tableau_rows.proofs.equation.Equation.of_row.Goals as goal
 
 pub invariant_of-result : goal.invariant_of-result

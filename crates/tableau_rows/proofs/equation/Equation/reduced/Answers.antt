@@ -3,7 +3,7 @@ use Rattle.std.specs.Int.{w128}
 use Rattle.std.proofs.lemmas.Int.{ints}
 use Rattle.std.proofs.lemmas.List.Elements.{All-same}
 use Rattle.tableau_rows.specs.Equation.{unit, coefficient, IsSparse}
-use Rattle.tableau_rows.proofs.Divided.{Divides, divided_sums, divided_sparse, divided_reduced, keeps_basic}
+use Rattle.tableau_rows.proofs.DivisionLaws.{Divides, divided_sums, divided_sparse, divided_reduced, keeps_basic}
 use Rattle.tableau_rows.proofs.equation.Equation.reduced.Goals as goal
 
 pub divided-entries-requires-clause-divides : goal.divided-entries-requires-clause-divides

@@ -2,7 +2,7 @@ use Rattle.std.proofs.Common.{◌≡◌, ◌≢◌, pos, neg_ℤ, map, true, fal
 use Rattle.std.specs.Int.{w128}
 use Rattle.std.proofs.lemmas.Int.{ints, to_z-of_z}
 use Rattle.tableau_rows.specs.Turning.{turned_entry}
-use Rattle.tableau_rows.proofs.Turned.{turned_solved, turned_multiple}
+use Rattle.tableau_rows.proofs.TurnLaws.{turned_solved, turned_multiple}
 use Rattle.tableau_rows.proofs.equation.Equation.solved_for.Goals as goal
 
 pub invariant_of-result : goal.invariant_of-result

@@ -2,7 +2,7 @@ use Rattle.std.proofs.Common.{◌≡◌, ℕ, ℤ, ◌*ℤ◌, ◌-ℤ◌, rules
 use Rattle.tableau_rows.specs.Equation.{total}
 use Rattle.tableau_rows.specs.Substitution.{sum_at}
 use Rattle.tableau_rows.specs.Proper.{turned}
-use Rattle.tableau_rows.proofs.Substituted.{basic_below, is_combination, is_gone}
+use Rattle.tableau_rows.proofs.SubstitutionLaws.{basic_below, is_combination, is_gone}
 use Rattle.tableau_rows.proofs.equation.Equation.substituted.Goals as goal
 
 pub reduced-requires-clause-below : goal.reduced-requires-clause-below

@@ -2,7 +2,7 @@ use Rattle.std.proofs.Common.{◌≢◌, ◌≡◌, FitsSigned, rules, arith}
 use Rattle.std.specs.Int.{w128}
 use Rattle.std.proofs.lemmas.Int.{to_z-of_z}
 use Rattle.std.proofs.lemmas.Bool.Decides.{nat_tests}
-use Rattle.tableau_rows.proofs.Merging.{Merging-begin, Merging-put, Merging-skip, Merging-end, in_row, in_pivot, entries_below}
+use Rattle.tableau_rows.proofs.MergeLaws.{Merging-begin, Merging-put, Merging-skip, Merging-end, in_row, in_pivot, entries_below}
 use Rattle.tableau_rows.proofs.substitution.Substitution.entries.Goals as goal
 
 pub loop-column-init : goal.loop-column-init

@@ -1,5 +1,5 @@
 use Rattle.std.proofs.Common.{◌+◌, length}
-use Rattle.tableau_rows.proofs.Merging.{Merging}
+use Rattle.tableau_rows.proofs.MergeLaws.{Merging}
 use Rattle.tableau_rows.proofs.substitution.Substitution.entries.Given as goal
 
 abbrev pub invariant-loop-column : goal.invariant-loop-column

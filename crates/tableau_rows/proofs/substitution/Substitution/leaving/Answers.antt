@@ -2,7 +2,7 @@ use Rattle.std.proofs.Common.{FitsSigned, rules}
 use Rattle.std.specs.Int.{w128}
 use Rattle.std.proofs.lemmas.Int.{to_z-of_z}
 use Rattle.tableau_rows.specs.Substitution.{times_leaving, leaving}
-use Rattle.tableau_rows.proofs.Formed.{IsStep-same, IsStep-turned}
+use Rattle.tableau_rows.proofs.FormLaws.{IsStep-same, IsStep-turned}
 use Rattle.tableau_rows.proofs.substitution.Substitution.leaving.Goals as goal
 
 pub returns-in-Ok-clause-step : goal.returns-in-Ok-clause-step

@@ -2,7 +2,7 @@ use Rattle.std.proofs.Common.{FitsSigned, rules}
 use Rattle.std.specs.Int.{w128}
 use Rattle.std.proofs.lemmas.Int.{to_z-of_z}
 use Rattle.tableau_rows.specs.Substitution.{times_row, times_pivot, difference, other}
-use Rattle.tableau_rows.proofs.Formed.{IsStep-same, IsStep-turned}
+use Rattle.tableau_rows.proofs.FormLaws.{IsStep-same, IsStep-turned}
 use Rattle.tableau_rows.proofs.substitution.Substitution.other.Goals as goal
 
 pub returns-in-Err-clause-step : goal.returns-in-Err-clause-step

@@ -2,7 +2,7 @@ use Rattle.std.proofs.Common.{FitsSigned, rules}
 use Rattle.std.specs.Int.{w128}
 use Rattle.std.proofs.lemmas.Int.{to_z-of_z}
 use Rattle.tableau_rows.specs.Substitution.{times_own, own, turned}
-use Rattle.tableau_rows.proofs.Formed.{IsStep-same, IsFormed-same}
+use Rattle.tableau_rows.proofs.FormLaws.{IsStep-same, IsFormed-same}
 use Rattle.tableau_rows.proofs.substitution.Substitution.own.Goals as goal
 
 pub returns-in-Err-oriented-clause-step : goal.returns-in-Err-oriented-clause-step

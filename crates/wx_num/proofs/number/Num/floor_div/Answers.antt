@@ -1,7 +1,7 @@
 use Rattle.std.proofs.Common.{◌≡◌, FitsSigned, rules}
 use Rattle.std.specs.Int.{int_div_euclid, w128}
 use Rattle.std.proofs.lemmas.Int.{to_z-of_z}
-use Rattle.wx_num.proofs.Floor.{floor_at_most, floor_greatest}
+use Rattle.wx_num.proofs.FloorLaws.{floor_at_most, floor_greatest}
 use Rattle.wx_num.proofs.number.Num.floor_div.Goals as goal
 
 -- what the code's quotient is, with no bits between

@@ -1,4 +1,4 @@
-use Rattle.wx_num.proofs.Divisors.{IsGcd-zero}
+use Rattle.wx_num.proofs.DivisorLaws.{IsGcd-zero}
 use Rattle.wx_num.proofs.number.Num.gcd.Goals as goal
 
 pub returns-clause-zero : goal.returns-clause-zero

@@ -14,7 +14,7 @@ use Rattle.mix_system.specs.Bounds.{Entails, IsIn, range_end, range_bounds}
 use Rattle.mix_system.proofs.BoundLaws.{IsIn-first, IsIn-there, IsIn-append_left, IsIn-append_right, IsIn-range_bounds}
 use Rattle.bounded_simplex.specs.InForce.{BoundChanges, bounds_on, tighter, tightened, after_change, from_ranges, in_force}
 use Rattle.bounded_simplex.specs.Refutation.{box_of}
-use Rattle.bounded_simplex.proofs.BoundLists.{from_bounds_on}
+use Rattle.bounded_simplex.proofs.BoundListLaws.{from_bounds_on}
 
 within_itself : (side : Side) (bound : ℤ) → IsWithin side bound bound
 within_itself Le bound = omega (arith, ints)

@@ -6,7 +6,7 @@ use Rattle.tableau_rows.specs.declared.equation.Equation.{Equation}
 use Rattle.tableau_rows.specs.Equation.{total, unit, coefficient}
 use Rattle.tableau_rows.specs.Substitution.{taken, sum_at, AreInLowestTerms, IsCombination}
 use Rattle.tableau_rows.specs.Proper.{turned}
-use Rattle.tableau_rows.proofs.Ring.{mul_assoc, neg-mul, mul_comm, mul-eq-zero}
+use Rattle.tableau_rows.proofs.RingLaws.{mul_assoc, neg-mul, mul_comm, mul-eq-zero}
 
 turned_combination : (p q r s : ℤ) → turned p (p *ℤ r -ℤ q *ℤ s) ≡ turned p p *ℤ r -ℤ turned p q *ℤ s
 turned_combination (pos p) q r s = refl

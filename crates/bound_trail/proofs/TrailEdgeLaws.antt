@@ -10,8 +10,8 @@ use Rattle.mix_system.specs.Bounds.{Entails, IsIn, range_bounds}
 use Rattle.bound_trail.specs.declared.edge.Edge.{Edge}
 use Rattle.bound_trail.specs.Edges.{place_of, blank_lit, no_edge, range_edges, first_edges, edge_after}
 use Rattle.bound_trail.specs.Reach.{Reaches}
-use Rattle.bound_trail.proofs.Anywhere.{any_here, any_left, any_right, any_append_cases, any_take_cases}
-use Rattle.bound_trail.proofs.Entailed.{entails_where_newer}
+use Rattle.bound_trail.proofs.AnywhereLaws.{any_here, any_left, any_right, any_append_cases, any_take_cases}
+use Rattle.bound_trail.proofs.EntailmentLaws.{entails_where_newer}
 use Rattle.bound_trail.proofs.EdgeLaws.{same_place, edge_of_range, range_of_edge}
 
 -- more literals behind change no edge after the first ones

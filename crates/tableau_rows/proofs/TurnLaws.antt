@@ -9,7 +9,7 @@ use Rattle.tableau_rows.specs.Equation.{total, unit, coefficient, IsSparse, IsRe
 use Rattle.tableau_rows.specs.declared.equation.Equation.{Equation}
 use Rattle.tableau_rows.specs.Substitution.{IsMultiple}
 use Rattle.tableau_rows.specs.Turning.{turned_number, turned_entry}
-use Rattle.tableau_rows.proofs.Ring.{neg-mul}
+use Rattle.tableau_rows.proofs.RingLaws.{neg-mul}
 
 pub turned_sums : (turn : Bool) (entries : List Entry) (number : ℕ → ℤ) → total number (map (turned_entry turn) entries) ≡ turned_number turn (total number entries)
 turned_sums true [] number = refl

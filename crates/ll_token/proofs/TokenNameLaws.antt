@@ -10,14 +10,14 @@ use Rattle.ll_token.specs.declared.lexeme.Lexeme.{Lexeme}
 use Rattle.ll_token.specs.declared.lexeme.Flaw.{Flaw}
 use Rattle.ll_token.specs.Bytes.{begins, is_run_byte}
 use Rattle.ll_token.specs.Names.{IsQuoted, Writes, StandsFor}
-use Rattle.ll_token.specs.Lexemes.{has_name, Holds, IsToken}
-use Rattle.ll_token.specs.Scan.{text_of, IsTokenOf, Names, IsLocalName}
+use Rattle.ll_token.specs.Lexemes.{has_name, HoldsName, IsToken}
+use Rattle.ll_token.specs.Scan.{text_of, IsTokenOf, GivesName, IsLocalName}
 use Rattle.ll_token.specs.Reading.{◌>>=◌, lexeme, bad_byte, inside_at, bare_name, quoted_name, name_at, body_of}
-use Rattle.ll_token.proofs.Lists.{apart, front_byte}
-use Rattle.ll_token.proofs.Pieces.{one_name}
-use Rattle.ll_token.proofs.Strings.{begins_is}
-use Rattle.ll_token.proofs.Lexemes.{IsLexeme, Right, name_right}
-use Rattle.ll_token.proofs.Again.{name_again}
+use Rattle.ll_token.proofs.ListLaws.{apart, front_byte}
+use Rattle.ll_token.proofs.PieceLaws.{one_name}
+use Rattle.ll_token.proofs.StringLaws.{begins_is}
+use Rattle.ll_token.proofs.LexemeLaws.{IsLexeme, Right, name_right}
+use Rattle.ll_token.proofs.AgainLaws.{name_again}
 
 -- ---- a run or a string
 
@@ -56,7 +56,7 @@ bare_gives body (Err e) bare is = tt
 -- ---- a token
 
 -- a token with a name holds one
-holds_some : (kind : TokenKind) (text after : List ℕ) → has_name kind ≡ true → IsToken kind text after → (name : List ℕ) × Holds kind text after name
+holds_some : (kind : TokenKind) (text after : List ℕ) → has_name kind ≡ true → IsToken kind text after → (name : List ℕ) × HoldsName kind text after name
 holds_some kinds.Local text after named is = is
 holds_some kinds.Global text after named is = is
 holds_some kinds.Label text after named is = is
@@ -68,7 +68,7 @@ holds_some kinds.Hash text after named is = absurd (false≢true named)
 holds_some kinds.Mark text after named is = absurd (false≢true named)
 
 -- its body writes it
-body_writes : (kind : TokenKind) (text after name : List ℕ) → Holds kind text after name → (next : List ℕ) × Writes (body_of kind text) next name
+body_writes : (kind : TokenKind) (text after name : List ℕ) → HoldsName kind text after name → (next : List ℕ) × Writes (body_of kind text) next name
 body_writes kinds.Local text after name (body, e, w, some) = (after, subst (λ (x : List ℕ). Writes x after name) (sym (ap (drop 1) e)) w)
 body_writes kinds.Global text after name (body, e, w, some) = (after, subst (λ (x : List ℕ). Writes x after name) (sym (ap (drop 1) e)) w)
 body_writes kinds.Label text after name (body, e, w, some) =
@@ -84,19 +84,19 @@ body_writes kinds.Mark text after name holds = absurd holds
 
 module _ (text : List ℕ) (token : Token) (bytes body : List ℕ) (bytes_is : bytes ≡ text_of text token) where
   -- the body of a token writes each name that the token holds
-  written : body ≡ body_of token.kind bytes → (name : List ℕ) → Names text token name → (next : List ℕ) × Writes body next name
+  written : body ≡ body_of token.kind bytes → (name : List ℕ) → GivesName text token name → (next : List ℕ) × Writes body next name
   written body_is name is =
       let w = body_writes token.kind (text_of text token) (drop token.end text) name is in
       (w.0, subst (λ (x : List ℕ). Writes x w.0 name) (sym (body_is ∙ ap (body_of token.kind) bytes_is)) w.1)
 
-  pub body_gives : {E : Type 0} (made : Result (List ℕ) E) → has_name token.kind ≡ true → body ≡ body_of token.kind bytes → IsTokenOf text token → IfOk made (λ name. (after other : List ℕ) → Writes body after other → name ≡ other) → IfOk made (Names text token)
+  pub body_gives : {E : Type 0} (made : Result (List ℕ) E) → has_name token.kind ≡ true → body ≡ body_of token.kind bytes → IsTokenOf text token → IfOk made (λ name. (after other : List ℕ) → Writes body after other → name ≡ other) → IfOk made (GivesName text token)
   body_gives (Ok name) named body_is is gives =
       let holds = holds_some token.kind (text_of text token) (drop token.end text) named is.form in
       let w = written body_is holds.0 holds.1 in
-      subst (Names text token) (sym (gives w.0 holds.0 w.1)) holds.1
+      subst (GivesName text token) (sym (gives w.0 holds.0 w.1)) holds.1
   body_gives (Err e) named body_is is gives = tt
 
-  pub only_gives : {E : Type 0} (made : Result (List ℕ) E) → body ≡ body_of token.kind bytes → IfOk made (λ name. (after other : List ℕ) → Writes body after other → name ≡ other) → (name : List ℕ) → Names text token name → IfOk made (λ found. found ≡ name)
+  pub only_gives : {E : Type 0} (made : Result (List ℕ) E) → body ≡ body_of token.kind bytes → IfOk made (λ name. (after other : List ℕ) → Writes body after other → name ≡ other) → (name : List ℕ) → GivesName text token name → IfOk made (λ found. found ≡ name)
   only_gives (Ok found) body_is gives name is = let w = written body_is name is in gives w.0 name w.1
   only_gives (Err e) body_is gives name is = tt
 

@@ -13,18 +13,18 @@ use Rattle.mix_system.specs.declared.farkas.FarkasPart.{FarkasPart}
 use Rattle.mix_system.specs.Sum.{int_sum_by}
 use Rattle.mix_system.specs.System.{Exists}
 use Rattle.mix_system.specs.Bounds.{IsIn}
-use Rattle.mix_system.specs.FarkasSum.{signed, weight, bound_weight, FarkasRefutes}
-use Rattle.mix_system.proofs.Sums.{int_sum_by_push}
+use Rattle.mix_system.specs.FarkasSum.{by_side, weight, bound_weight, FarkasRefutes}
+use Rattle.mix_system.proofs.SumLaws.{int_sum_by_push}
 use Rattle.tableau_rows.specs.declared.entry.Entry.{Entry}
 use Rattle.tableau_rows.specs.Equation.{total}
 use Rattle.tableau_rows.specs.Turning.{turned_number}
-use Rattle.tableau_rows.proofs.Ring.{neg-mul}
-use Rattle.tableau_rows.proofs.Totals.{total_push}
+use Rattle.tableau_rows.proofs.RingLaws.{neg-mul}
+use Rattle.tableau_rows.proofs.TotalLaws.{total_push}
 use Rattle.bounded_simplex.specs.InForce.{BoundChanges}
 use Rattle.bounded_simplex.specs.Terms.{term_of, times_in, times_in_column}
 use Rattle.bounded_simplex.specs.Refutation.{box_of, SaysInForce, IsPartOf}
-use Rattle.bounded_simplex.proofs.Coefficients.{term_of_var, term_of_row}
-use Rattle.bounded_simplex.proofs.InBox.{in_box}
+use Rattle.bounded_simplex.proofs.CoefficientLaws.{term_of_var, term_of_row}
+use Rattle.bounded_simplex.proofs.InBoxLaws.{in_box}
 
 turned_add : (turn : Bool) (a b : ℤ) → turned_number turn (a +ℤ b) ≡ turned_number turn a +ℤ turned_number turn b
 turned_add true a b = omega (arith, ints)
@@ -38,7 +38,7 @@ turned_zero : (turn : Bool) → turned_number turn (pos 0) ≡ pos 0
 turned_zero true = refl
 turned_zero false = refl
 
-signed_mul : (side : Side) (a b : ℤ) → signed side (a *ℤ b) ≡ signed side a *ℤ b
+signed_mul : (side : Side) (a b : ℤ) → by_side side (a *ℤ b) ≡ by_side side a *ℤ b
 signed_mul Le a b = refl
 signed_mul Ge a b = sym (neg-mul a b)
 

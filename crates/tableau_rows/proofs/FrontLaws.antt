@@ -6,7 +6,7 @@ use Rattle.std.proofs.lemmas.List.Elements.{All-head, All-tail, All-weaker, All-
 use Rattle.tableau_rows.specs.declared.entry.Entry.{Entry}
 use Rattle.tableau_rows.specs.Equation.{IsSparse}
 use Rattle.tableau_rows.specs.Merge.{IsSplitOff}
-use Rattle.tableau_rows.proofs.Totals.{rising-tail, rising-head}
+use Rattle.tableau_rows.proofs.TotalLaws.{rising-tail, rising-head}
 
 -- the first column is the least
 pub least_first : (entries : List Entry) (d : Entry) (column : ℕ) → IsSparse entries → column ≤ (get_or entries 0 d).column → All (λ entry. column ≤ entry.column) entries

@@ -6,7 +6,7 @@ use Rattle.std.proofs.lemmas.List.Elements.{All-contains}
 use Rattle.flow_graph.specs.declared.edge.Edge.{Edge}
 use Rattle.flow_graph.specs.Paths.{HasEdge}
 use Rattle.block_order.specs.Order.{Runs, IsClosed, IsKeptOrder}
-use Rattle.block_order.proofs.Taking.{IsWithin}
+use Rattle.block_order.proofs.TakingLaws.{IsWithin}
 
 -- a block stands at a place of the order that is below a bound
 record StandsBelow (order : List ℕ) (bound block : ℕ) : Type 0 where

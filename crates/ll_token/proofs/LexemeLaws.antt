@@ -13,8 +13,8 @@ use Rattle.ll_token.specs.Names.{IsRun, IsQuoted, Writes, StandsFor}
 use Rattle.ll_token.specs.Lexemes.{IsToken, IsFlaw, IsLead, BeginsNoToken}
 use Rattle.ll_token.specs.Lexemes.BeginsNoToken.{other_byte, no_name, no_hash, empty_name, empty_label}
 use Rattle.ll_token.specs.Reading.{◌>>=◌, lexeme, bad_byte, inside_at, bare_name, quoted_name, name_at, string_at, run_at, lexeme_at}
-use Rattle.ll_token.proofs.Lists.{prefix_passes, prefix_ends}
-use Rattle.ll_token.proofs.Strings.{begins_is, begins_neither, InsideRight, IsInside, inside_right, flaw_right}
+use Rattle.ll_token.proofs.ListLaws.{prefix_passes, prefix_ends}
+use Rattle.ll_token.proofs.StringLaws.{begins_is, begins_neither, InsideRight, IsInside, inside_right, flaw_right}
 
 -- what is read as a token is one
 pub record IsLexeme (bytes : List ℕ) (read : Lexeme) : Type 0 where

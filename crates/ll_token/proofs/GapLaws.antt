@@ -7,7 +7,7 @@ use Rattle.ll_token.specs.Bytes.{is_space, begins_gap, begins}
 use Rattle.ll_token.specs.Scan.{IsComment, IsGap, IsLastGap}
 use Rattle.ll_token.specs.Scan.IsGap.{nothing, space, comment}
 use Rattle.ll_token.specs.Reading.{gap_len}
-use Rattle.ll_token.proofs.Lists.{apart}
+use Rattle.ll_token.proofs.ListLaws.{apart}
 
 pub gap_more : (inside : Bool) (bytes : List ℕ) (i : ℕ) → i < length bytes → gap_len inside (drop i bytes) ≡ cond (eqb (get_or bytes i 0) 10) (suc (gap_len false (drop (i + 1) bytes))) (cond inside (suc (gap_len true (drop (i + 1) bytes))) (cond (eqb (get_or bytes i 0) 59) (suc (gap_len true (drop (i + 1) bytes))) (cond (is_space (get_or bytes i 0)) (suc (gap_len false (drop (i + 1) bytes))) 0)))
 unfolding gap_len

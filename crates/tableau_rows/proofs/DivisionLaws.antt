@@ -12,7 +12,7 @@ use Rattle.std.proofs.lemmas.Nat.Gcd.{dvd_trans}
 use Rattle.tableau_rows.specs.declared.entry.Entry.{Entry}
 use Rattle.tableau_rows.specs.Equation.{total, IsSparse, IsReduced}
 use Rattle.tableau_rows.specs.Reduction.{IsDivided, AreDivided}
-use Rattle.tableau_rows.proofs.Ring.{mul_assoc, mul-add, mul_comm}
+use Rattle.tableau_rows.proofs.RingLaws.{mul_assoc, mul-add, mul_comm}
 
 abbrev pub Divides : ℕ → Entry → Type 0
 Divides d entry = d ∣ unsigned_abs entry.coeff

@@ -8,11 +8,11 @@ use Rattle.mix_system.specs.declared.literal.Lit.{Lit}
 use Rattle.mix_system.specs.declared.farkas.FarkasPart.{FarkasPart}
 use Rattle.mix_system.specs.System.{Exists}
 use Rattle.mix_system.specs.Bounds.{IsIn}
-use Rattle.mix_system.specs.FarkasSum.{signed, weight, bound_weight, FarkasRefutes}
+use Rattle.mix_system.specs.FarkasSum.{by_side, weight, bound_weight, FarkasRefutes}
 use Rattle.bounded_simplex.specs.InForce.{BoundChanges, in_force}
 use Rattle.bounded_simplex.specs.Terms.{times_in}
 use Rattle.bounded_simplex.specs.Refutation.{box_of, SaysInForce}
-use Rattle.bounded_simplex.proofs.InBox.{in_box}
+use Rattle.bounded_simplex.proofs.InBoxLaws.{in_box}
 
 module _ (bounds : BoundChanges) (term : Term) (low high : ℤ) (exists : Exists (length bounds.system.ranges) (length bounds.system.rows) term)
     (below : in_force bounds term Ge ≡ Some low) (above : in_force bounds term Le ≡ Some high) (p q : FarkasPart)
@@ -33,16 +33,16 @@ module _ (bounds : BoundChanges) (term : Term) (low high : ℤ) (exists : Exists
   q_in = subst (IsIn (box_of bounds)) (sym q_lit) (in_box bounds (record { term = term; side = Le; bound = high }) exists above)
 
   p_weight : (var : ℕ) → weight bounds.system.rows var p ≡ neg_ℤ (pos 1 *ℤ times_in bounds.system var term)
-  p_weight var = (λ i. signed (p_lit i).side (p_once i *ℤ times_in bounds.system var (p_lit i).term))
+  p_weight var = (λ i. by_side (p_lit i).side (p_once i *ℤ times_in bounds.system var (p_lit i).term))
 
   q_weight : (var : ℕ) → weight bounds.system.rows var q ≡ pos 1 *ℤ times_in bounds.system var term
-  q_weight var = (λ i. signed (q_lit i).side (q_once i *ℤ times_in bounds.system var (q_lit i).term))
+  q_weight var = (λ i. by_side (q_lit i).side (q_once i *ℤ times_in bounds.system var (q_lit i).term))
 
   p_bound : bound_weight p ≡ neg_ℤ (pos 1 *ℤ low)
-  p_bound = (λ i. signed (p_lit i).side (p_once i *ℤ (p_lit i).bound))
+  p_bound = (λ i. by_side (p_lit i).side (p_once i *ℤ (p_lit i).bound))
 
   q_bound : bound_weight q ≡ pos 1 *ℤ high
-  q_bound = (λ i. signed (q_lit i).side (q_once i *ℤ (q_lit i).bound))
+  q_bound = (λ i. by_side (q_lit i).side (q_once i *ℤ (q_lit i).bound))
 
   pub two_refute : high <ℤ low → FarkasRefutes bounds.system.rows (box_of bounds) (p ∷ q ∷ [])
   two_refute less = record {

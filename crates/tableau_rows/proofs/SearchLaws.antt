@@ -4,7 +4,7 @@ use Rattle.std.proofs.lemmas.Bool.{cases_lt}
 use Rattle.std.proofs.lemmas.List.{get_or_default}
 use Rattle.tableau_rows.specs.declared.entry.Entry.{Entry}
 use Rattle.tableau_rows.specs.Equation.{coefficient, IsSparse}
-use Rattle.tableau_rows.proofs.Totals.{coefficient_none}
+use Rattle.tableau_rows.proofs.TotalLaws.{coefficient_none}
 
 pub below_middle : (entries : List Entry) → IsSparse entries → (middle : ℕ) (e : Entry) (column : ℕ) → middle < length entries → (get_or entries middle e).column < column
     → (k : ℕ) (d : Entry) → k < middle + 1 → (get_or entries k d).column < column

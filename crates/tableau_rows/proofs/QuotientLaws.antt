@@ -7,7 +7,7 @@ use Rattle.std.proofs.lemmas.Int.{ints}
 use Rattle.std.proofs.lemmas.Nat.{div-add-mod'}
 use Rattle.std.proofs.lemmas.Nat.Gcd.{le_of_dvd, mod-eq-zero_of_dvd}
 use Rattle.std.proofs.Math.Nat.{eq-zero_of_zero-dvd}
-use Rattle.tableau_rows.proofs.Ring.{neg-mul}
+use Rattle.tableau_rows.proofs.RingLaws.{neg-mul}
 
 pub size_fits : (number : ℤ) → FitsSigned w128 number → unsigned_abs number ≤ 2 ^ 127
 size_fits (pos n) fits = omega (arith, ints)

@@ -12,7 +12,7 @@ use Rattle.mix_system.specs.Sum.{int_sum_by}
 use Rattle.tableau_rows.specs.declared.entry.Entry.{Entry}
 use Rattle.tableau_rows.specs.Equation.{total, unit, IsSolved}
 use Rattle.tableau_rows.specs.Turning.{entry_of}
-use Rattle.tableau_rows.proofs.Totals.{total_push, unit_same, coefficient_none}
+use Rattle.tableau_rows.proofs.TotalLaws.{total_push, unit_same, coefficient_none}
 
 abbrev own_entry : ℕ → Entry
 own_entry basic = record { column = basic; coeff = negsuc 0 }

@@ -6,7 +6,7 @@ use Rattle.mix_system.specs.declared.literal.Side.TheVariants.{Le, Ge}
 use Rattle.mix_system.specs.declared.literal.Lit.{Lit}
 use Rattle.mix_system.specs.Lit.{IsWithin, other_side, negated_bound, negation}
 use Rattle.mix_system.specs.Bounds.{Entails, IsIn}
-use Rattle.bound_trail.proofs.Anywhere.{any_weaker}
+use Rattle.bound_trail.proofs.AnywhereLaws.{any_weaker}
 
 within_trans : (side : Side) (a b c : ℤ) → IsWithin side b a → IsWithin side c b → IsWithin side c a
 within_trans Le a b c h k = omega (arith, ints)

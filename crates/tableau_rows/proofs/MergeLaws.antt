@@ -10,8 +10,8 @@ use Rattle.tableau_rows.specs.Equation.{total, unit, coefficient, IsSparse}
 use Rattle.tableau_rows.specs.Merge.{BeginsAt, IsSplitOff}
 use Rattle.tableau_rows.specs.Substitution.{taken, sum_at, AreInLowestTerms}
 use Rattle.tableau_rows.specs.Proper.{turned}
-use Rattle.tableau_rows.proofs.Ring.{mul_assoc, mul-add, sub-mul, neg-mul, mul_comm}
-use Rattle.tableau_rows.proofs.Totals.{unit_same, unit_other, coefficient_none}
+use Rattle.tableau_rows.proofs.RingLaws.{mul_assoc, mul-add, sub-mul, neg-mul, mul_comm}
+use Rattle.tableau_rows.proofs.TotalLaws.{unit_same, unit_other, coefficient_none}
 
 pub turned-add : (p a b : ℤ) → turned p (a +ℤ b) ≡ turned p a +ℤ turned p b
 turned-add (pos p) a b = refl

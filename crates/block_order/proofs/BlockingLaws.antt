@@ -6,7 +6,7 @@ use Rattle.std.proofs.lemmas.Bool.{false≢true, true≢false, cases_eq, cases_l
 use Rattle.std.proofs.lemmas.List.Elements.{at_read, AllWithin-more}
 use Rattle.flow_graph.specs.declared.edge.Edge.{Edge}
 use Rattle.flow_graph.specs.Paths.{HasEdge}
-use Rattle.block_order.specs.Marks.{IsFree, IsFirstFree, IsStuck, AreBlocked, IsOpen, IsFirstOpen}
+use Rattle.block_order.specs.Marks.{IsFree, IsFirstFree, IsStuck, AreBlocked, IsTakeable, IsFirstOpen}
 
 abbrev pub no_edge : Edge
 no_edge = record { from = 0; to = 0 }
@@ -65,15 +65,15 @@ blocked_all edges taken blocked done block within = (
 
 -- what is open is free, and the other way round
 module _ (edges : List Edge) (taken blocked : List Bool) (size : length blocked ≡ length taken) (marks : AreBlocked edges taken blocked) where
-  free_from_open : (block : ℕ) → block < length taken → IsOpen taken blocked block → IsFree edges taken block
+  free_from_open : (block : ℕ) → block < length taken → IsTakeable taken blocked block → IsFree edges taken block
   free_from_open block within is_open =
       (is_open.0, λ from edge. ⊎_elim (λ is_taken. is_taken) (λ is_left. absurd (false≢true (sym is_open.1 ∙ (marks block (omega (arith, within, size))).1 (from, edge, is_left)))) (cases_Bool (get_or taken from false)))
 
-  open_from_free : (block : ℕ) → block < length taken → IsFree edges taken block → IsOpen taken blocked block
+  open_from_free : (block : ℕ) → block < length taken → IsFree edges taken block → IsTakeable taken blocked block
   open_from_free block within is_free =
       (is_free.0, ⊎_elim (λ is_blocked. absurd (let some = (marks block (omega (arith, within, size))).0 is_blocked in true≢false (sym (is_free.1 some.0 some.1) ∙ some.2))) (λ not_blocked. not_blocked) (cases_Bool (get_or blocked block false)))
 
-  pub next_from_open : (found : Option ℕ) → MatchOption found ((block : ℕ) → block < length taken → IsOpen taken blocked block → ⊥) (IsFirstOpen taken blocked) → MatchOption found (IsStuck edges taken) (IsFirstFree edges taken)
+  pub next_from_open : (found : Option ℕ) → MatchOption found ((block : ℕ) → block < length taken → IsTakeable taken blocked block → ⊥) (IsFirstOpen taken blocked) → MatchOption found (IsStuck edges taken) (IsFirstFree edges taken)
   next_from_open None none = λ block within is_left.
       ⊎_elim (λ is_blocked. (marks block (omega (arith, within, size))).0 is_blocked) (λ not_blocked. absurd (none block within (is_left, not_blocked))) (cases_Bool (get_or blocked block false))
   next_from_open (Some block) first = record {

@@ -5,8 +5,8 @@ use Rattle.std.proofs.lemmas.Bool.{cases_eq, cases_lt}
 use Rattle.std.proofs.lemmas.List.{get_or_default, get_or_append_left, get_or_at}
 use Rattle.tableau_rows.specs.Equation.{unit}
 use Rattle.tableau_rows.specs.declared.equation.Equation.{Equation}
-use Rattle.tableau_rows.specs.Substitution.{taken, sum_at, Holds, IsMultiple, IsCombination}
-use Rattle.tableau_rows.proofs.Ring.{mul-eq-zero}
+use Rattle.tableau_rows.specs.Substitution.{taken, sum_at, Satisfies, IsMultiple, IsCombination}
+use Rattle.tableau_rows.proofs.RingLaws.{mul-eq-zero}
 use Rattle.bounded_simplex.specs.TableauOf.{AllHold, AreApart}
 use Rattle.bounded_simplex.specs.Pivot.{IsChanged, IsSolvedAnew, ArePivoted, IsFresh, chosen, ArePut}
 

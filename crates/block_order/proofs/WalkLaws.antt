@@ -7,7 +7,7 @@ use Rattle.std.proofs.lemmas.Bool.{false≢true, cases_eq, cases_lt}
 use Rattle.flow_graph.specs.declared.edge.Edge.{Edge}
 use Rattle.flow_graph.specs.Paths.{HasEdge}
 use Rattle.block_order.specs.Walk.{IsChain}
-use Rattle.block_order.proofs.Taking.{IsWithin}
+use Rattle.block_order.proofs.TakingLaws.{IsWithin}
 
 pub record Walked (edges : List Edge) (taken seen : List Bool) (walk : List ℕ) (at : ℕ) : Type 0 where
   pub size : length seen ≡ length taken

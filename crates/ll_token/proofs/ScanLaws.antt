@@ -17,13 +17,13 @@ use Rattle.ll_token.specs.declared.lexeme.Flaw.{Flaw}
 use Rattle.ll_token.specs.Bytes.{begins, begins_gap, is_run_byte, is_inner, is_mark, line_ends}
 use Rattle.ll_token.specs.Names.{IsQuoted, Writes}
 use Rattle.ll_token.specs.Lexemes.{IsToken, IsFlaw}
-use Rattle.ll_token.specs.Scan.{IsGap, IsLastGap, StartsWith, Leads, AreTokens, StopsAt, IsFirstFault, Follows, IsTokenOf, AreInOrder}
+use Rattle.ll_token.specs.Scan.{IsGap, IsLastGap, StartsWith, Scans, AreTokens, StopsAt, IsFirstFault, Follows, IsTokenOf, AreInOrder}
 use Rattle.ll_token.specs.Reading.{lexeme, gap_len, lexeme_at}
-use Rattle.ll_token.proofs.Lists.{apart, all_weaker, no_line_ends, line_ends-append}
-use Rattle.ll_token.proofs.Pieces.{some_left}
-use Rattle.ll_token.proofs.Gaps.{SkipsGap, skips_gap, no_gap, gap_again, last_gap_again}
-use Rattle.ll_token.proofs.Lexemes.{IsLexeme, Right, lexeme_right}
-use Rattle.ll_token.proofs.Again.{Starts, lexeme_again, flaw_again}
+use Rattle.ll_token.proofs.ListLaws.{apart, all_weaker, no_line_ends, line_ends-append}
+use Rattle.ll_token.proofs.PieceLaws.{some_left}
+use Rattle.ll_token.proofs.GapLaws.{SkipsGap, skips_gap, no_gap, gap_again, last_gap_again}
+use Rattle.ll_token.proofs.LexemeLaws.{IsLexeme, Right, lexeme_right}
+use Rattle.ll_token.proofs.AgainLaws.{Starts, lexeme_again, flaw_again}
 
 -- ---- a token has bytes, and none of them is LF
 
@@ -166,7 +166,7 @@ no_end (Some f) token read rest e = cc
 
 -- A text is read in one way.
 one_scan : (first_line : ℕ) (before bytes : List ℕ) (ts us : List Token) (read rest read' rest' : List ℕ) (a b : Option TokenFault)
-    → Leads first_line before bytes ts read rest → Ends first_line read rest a → Leads first_line before bytes us read' rest' → Ends first_line read' rest' b → (ts ≡ us) × (a ≡ b)
+    → Scans first_line before bytes ts read rest → Ends first_line read rest a → Scans first_line before bytes us read' rest' → Ends first_line read' rest' b → (ts ≡ us) × (a ≡ b)
 one_scan first_line before bytes [] [] read rest read' rest' a b l ends m other =
     let first : next_at first_line before bytes ≡ end_value a = ap (λ (x : List ℕ). next_at first_line x bytes) (sym l.0) ∙ ap (λ (x : List ℕ). next_at first_line read x) (sym l.1) ∙ end_next first_line read rest a ends in
     let second : next_at first_line before bytes ≡ end_value b = ap (λ (x : List ℕ). next_at first_line x bytes) (sym m.0) ∙ ap (λ (x : List ℕ). next_at first_line read' x) (sym m.1) ∙ end_next first_line read' rest' b other in
@@ -179,7 +179,7 @@ one_scan first_line before bytes (t ∷ ts) [] read rest read' rest' a b l ends 
     absurd (no_end b t l.0 l.1 (sym second ∙ token_next first_line before bytes t l.0 l.1 l.2))
 one_scan first_line before bytes (t ∷ ts) (u ∷ us) read rest read' rest' a b l ends m other =
     let same = found_is t u l.0 m.0 l.1 m.1 (sym (token_next first_line before bytes t l.0 l.1 l.2) ∙ token_next first_line before bytes u m.0 m.1 m.2) in
-    let moved : Leads first_line l.0 l.1 us read' rest' = rw (same.1, same.2) m.3 in
+    let moved : Scans first_line l.0 l.1 us read' rest' = rw (same.1, same.2) m.3 in
     let later = one_scan first_line l.0 l.1 ts us read rest read' rest' a b l.3 ends moved other in
     (rw (same.0, later.0) refl, later.1)
 
@@ -282,12 +282,12 @@ module _ (first_line : ℕ) (before bytes : List ℕ) (some : 0 < length (drop (
 
 -- ---- the tokens so far
 
-pub Leads-push : (first_line : ℕ) (before bytes : List ℕ) (tokens : List Token) (read rest : List ℕ) (token : Token) (end after : List ℕ)
-    → Leads first_line before bytes tokens read rest → StartsWith first_line read rest token end after → Leads first_line before bytes (tokens ++ token ∷ []) end after
-Leads-push first_line before bytes [] read rest token end after leads starts =
+pub Scans-push : (first_line : ℕ) (before bytes : List ℕ) (tokens : List Token) (read rest : List ℕ) (token : Token) (end after : List ℕ)
+    → Scans first_line before bytes tokens read rest → StartsWith first_line read rest token end after → Scans first_line before bytes (tokens ++ token ∷ []) end after
+Scans-push first_line before bytes [] read rest token end after leads starts =
     (end, after, subst (λ (x : List ℕ). StartsWith first_line before x token end after) leads.1 (subst (λ (x : List ℕ). StartsWith first_line x rest token end after) leads.0 starts), (refl, refl))
-Leads-push first_line before bytes (t ∷ tokens) read rest token end after leads starts =
-    (leads.0, leads.1, leads.2, Leads-push first_line leads.0 leads.1 tokens read rest token end after leads.3 starts)
+Scans-push first_line before bytes (t ∷ tokens) read rest token end after leads starts =
+    (leads.0, leads.1, leads.2, Scans-push first_line leads.0 leads.1 tokens read rest token end after leads.3 starts)
 
 pub starts_whole : (first_line : ℕ) (before bytes : List ℕ) (token : Token) (end after : List ℕ) → StartsWith first_line before bytes token end after → before ++ bytes ≡ end ++ after
 starts_whole first_line before bytes token end after s =
@@ -304,7 +304,7 @@ starts_end first_line before bytes token end after s =
 
 -- ---- what follows of the tokens of a text
 
-pub in_order : (first_line : ℕ) (before bytes : List ℕ) (tokens : List Token) (read rest : List ℕ) (to : ℕ) → to ≡ length before + length bytes → Leads first_line before bytes tokens read rest → AreInOrder (length before) to tokens
+pub in_order : (first_line : ℕ) (before bytes : List ℕ) (tokens : List Token) (read rest : List ℕ) (to : ℕ) → to ≡ length before + length bytes → Scans first_line before bytes tokens read rest → AreInOrder (length before) to tokens
 in_order first_line before bytes [] read rest to e leads = omega (arith, e)
 in_order first_line before bytes (t ∷ tokens) read rest to e leads =
     let places = starts_end first_line before bytes t leads.0 leads.1 leads.2 in
@@ -322,7 +322,7 @@ slice_at text front part after start end parts start_is end_is =
       omega (arith, ap length parts, length-append front (part ++ after), length-append part after, end_is),
     )
 
-pub each_is : (text : List ℕ) (first_line : ℕ) (before bytes : List ℕ) (tokens : List Token) (read rest : List ℕ) → text ≡ before ++ bytes → Leads first_line before bytes tokens read rest → All (IsTokenOf text) tokens
+pub each_is : (text : List ℕ) (first_line : ℕ) (before bytes : List ℕ) (tokens : List Token) (read rest : List ℕ) → text ≡ before ++ bytes → Scans first_line before bytes tokens read rest → All (IsTokenOf text) tokens
 each_is text first_line before bytes [] read rest e leads = All-nil (IsTokenOf text)
 each_is text first_line before bytes (t ∷ tokens) read rest e leads =
     let s = leads.2 in
@@ -390,7 +390,7 @@ module _ (text behind rest : List ℕ) (at len : ℕ) (behind_is : behind ≡ dr
 pub record ReadTo (first_line : ℕ) (text : List ℕ) (tokens : List Token) (at line : ℕ) : Type 0 where
   pub within : at ≤ length text
   pub line_is : line ≡ first_line + line_ends (take at text)
-  pub leads : Leads first_line [] text tokens (take at text) (drop at text)
+  pub leads : Scans first_line [] text tokens (take at text) (drop at text)
 
 pub few_lines : (first_line : ℕ) (text : List ℕ) (tokens : List Token) (at line : ℕ) → first_line < 2 ^ 31 → ReadTo first_line text tokens at line → line < 2 ^ 31 + at
 few_lines first_line text tokens at line few r =
@@ -405,13 +405,13 @@ reads_on first_line text tokens at line token r follows =
     let whole : text ≡ end ++ after = sym (take-append-drop at text) ∙ starts_whole first_line (take at text) (drop at text) token end after follows.2 in
     let front : take token.end text ≡ end = ap (take token.end) whole ∙ take_at end after token.end (sym places.0) in
     let back : drop token.end text ≡ after = ap (drop token.end) whole ∙ drop_at end after token.end (sym places.0) in
-    let pushed = Leads-push first_line [] text tokens (take at text) (drop at text) token end after r.leads follows.2 in
+    let pushed = Scans-push first_line [] text tokens (take at text) (drop at text) token end after r.leads follows.2 in
     let long : length text ≡ length end + length after = ap length whole ∙ length-append end after in
     let from : length (take at text) ≡ at = length-take-le at text r.within in (
       record {
         within = omega (arith, places.0, long);
         line_is = places.1 ∙ ap (λ (x : List ℕ). first_line + line_ends x) (sym front);
-        leads = subst (λ (x : List ℕ). Leads first_line [] text (tokens ++ token ∷ []) x (drop token.end text)) (sym front) (subst (λ (x : List ℕ). Leads first_line [] text (tokens ++ token ∷ []) end x) (sym back) pushed);
+        leads = subst (λ (x : List ℕ). Scans first_line [] text (tokens ++ token ∷ []) x (drop token.end text)) (sym front) (subst (λ (x : List ℕ). Scans first_line [] text (tokens ++ token ∷ []) end x) (sym back) pushed);
       },
       omega (arith, places.2, places.3, from),
     )
@@ -420,7 +420,7 @@ reads_on first_line text tokens at line token r follows =
 
 -- a text is read to its end or to its first fault
 abbrev pub IsAnswer : (text : List ℕ) (first_line : ℕ) (tokens : List Token) → Option TokenFault → Type 0
-IsAnswer text first_line tokens end = (read rest : List ℕ) × Leads first_line [] text tokens read rest × Ends first_line read rest end
+IsAnswer text first_line tokens end = (read rest : List ℕ) × Scans first_line [] text tokens read rest × Ends first_line read rest end
 
 one_end : (text : List ℕ) (first_line : ℕ) (ts us : List Token) (a b : Option TokenFault) → IsAnswer text first_line ts a → IsAnswer text first_line us b → (ts ≡ us) × (a ≡ b)
 one_end text first_line ts us a b s t = one_scan first_line [] text ts us s.0 s.1 t.0 t.1 a b s.2 s.3 t.2 t.3
@@ -441,7 +441,7 @@ not_both text first_line tokens fault s t =
 -- ---- some answer
 
 abbrev Scan : ℕ → List ℕ → List ℕ → Type 0
-Scan first_line before bytes = (tokens : List Token) × (end : Option TokenFault) × (read rest : List ℕ) × Leads first_line before bytes tokens read rest × Ends first_line read rest end
+Scan first_line before bytes = (tokens : List Token) × (end : Option TokenFault) × (read rest : List ℕ) × Scans first_line before bytes tokens read rest × Ends first_line read rest end
 
 stop : (first_line : ℕ) (before bytes : List ℕ) (end : Option TokenFault) → Ends first_line before bytes end → Scan first_line before bytes
 stop first_line before bytes end ends = ([], end, before, bytes, (refl, refl), ends)
@@ -471,7 +471,7 @@ scan_all (suc bytes_left) first_line before bytes few =
       | inr none ↦ stop first_line before bytes None (follows_end bytes (omega arith))
     ]
 
-answer_of : (text : List ℕ) (first_line : ℕ) (tokens : List Token) (end : Option TokenFault) (read rest : List ℕ) → Leads first_line [] text tokens read rest → Ends first_line read rest end → ((tokens : List Token) × AreTokens text first_line tokens) ⊎ ((fault : TokenFault) × IsFirstFault text first_line fault)
+answer_of : (text : List ℕ) (first_line : ℕ) (tokens : List Token) (end : Option TokenFault) (read rest : List ℕ) → Scans first_line [] text tokens read rest → Ends first_line read rest end → ((tokens : List Token) × AreTokens text first_line tokens) ⊎ ((fault : TokenFault) × IsFirstFault text first_line fault)
 answer_of text first_line tokens None read rest leads ends = inl (tokens, (read, rest, leads, ends))
 answer_of text first_line tokens (Some fault) read rest leads ends = inr (fault, (tokens, read, rest, leads, ends))
 

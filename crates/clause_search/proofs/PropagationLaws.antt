@@ -17,7 +17,7 @@ use Rattle.clause_search.specs.Search.{Search, IsImpliedAt, Propagated}
 use Rattle.clause_search.specs.Passed.{IsSettledAt, Leaves, Ends, SoFar, IsGoing}
 use Rattle.clause_search.specs.declared.propagate.Pass.{Pass}
 use Rattle.clause_search.specs.declared.propagate.Pass.TheVariants.{Still, Moved, Stopped}
-use Rattle.clause_search.proofs.Reasons.{with_lit}
+use Rattle.clause_search.proofs.ReasonLaws.{with_lit}
 
 -- what holds of each literal of a clause holds of the one that is left
 pub all_left : (P : Lit → Type 0) (bounds clause : List Lit) (lit : Lit) → LeavesOne bounds clause lit → All P clause → P lit

@@ -10,8 +10,8 @@ use Rattle.ll_token.specs.Bytes.{is_inner, begins}
 use Rattle.ll_token.specs.Names.{StandsFor, IsBadEscape}
 use Rattle.ll_token.specs.Lexemes.{IsLead, IsFlaw}
 use Rattle.ll_token.specs.Reading.{bad_at, escapes_checked, inside_at}
-use Rattle.ll_token.proofs.Lists.{prefix_passes, prefix_ends, prefix_is}
-use Rattle.ll_token.proofs.Pieces.{Answers, bad_right, one_answer}
+use Rattle.ll_token.proofs.ListLaws.{prefix_passes, prefix_ends, prefix_is}
+use Rattle.ll_token.proofs.PieceLaws.{Answers, bad_right, one_answer}
 
 -- bytes that begin with a byte are it and others
 pub begins_is : (c : ℕ) (bytes : List ℕ) → begins (λ b. eqb b c) bytes ≡ true → (rest : List ℕ) × (bytes ≡ c ∷ rest)
@@ -37,7 +37,7 @@ pub record IsInside (bytes : List ℕ) (len : ℕ) : Type 0 where
   pub escapes : StandsFor inner name []
 
 -- the inside has no end in its line
-pub record IsOpen (bytes : List ℕ) : Type 0 where
+pub record HasNoEnd (bytes : List ℕ) : Type 0 where
   pub inner : List ℕ
   pub after : List ℕ
   pub parts : bytes ≡ inner ++ after
@@ -61,7 +61,7 @@ bad_escape offset = record { kind = faults.BadEscape; offset = offset }
 -- what is read of an inside
 abbrev pub InsideRight : ℕ → List ℕ → Result ℕ Flaw → Type 0
 InsideRight lead bytes (Ok len) = IsInside bytes len
-InsideRight lead bytes (Err flaw) = ((flaw ≡ open_string) × IsOpen bytes) ⊎ ((within : ℕ) × (flaw ≡ bad_escape (lead + within)) × IsBad bytes within)
+InsideRight lead bytes (Err flaw) = ((flaw ≡ open_string) × HasNoEnd bytes) ⊎ ((within : ℕ) × (flaw ≡ bad_escape (lead + within)) × IsBad bytes within)
 
 closed_right : (lead : ℕ) (bytes inner after : List ℕ) → bytes ≡ inner ++ 34 ∷ after → list_all is_inner inner ≡ true → (answer : Option ℕ) → Answers inner answer → InsideRight lead bytes (escapes_checked lead answer (length inner))
 closed_right lead bytes inner after parts in_line None w = record { inner = inner; after = after; name = w.0; parts = parts; len_is = refl; in_line = in_line; escapes = w.1 }

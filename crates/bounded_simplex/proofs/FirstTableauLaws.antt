@@ -10,10 +10,10 @@ use Rattle.mix_system.specs.System.{System, IsRow, IsWellFormed}
 use Rattle.tableau_rows.specs.declared.entry.Entry.{Entry}
 use Rattle.tableau_rows.specs.declared.equation.Equation.{Equation}
 use Rattle.tableau_rows.specs.Equation.{total, unit, coefficient}
-use Rattle.tableau_rows.specs.Substitution.{taken, sum_at, Holds}
+use Rattle.tableau_rows.specs.Substitution.{taken, sum_at, Satisfies}
 use Rattle.tableau_rows.specs.Turning.{entry_of}
-use Rattle.tableau_rows.proofs.Totals.{total_push, unit_other, coefficient_none}
-use Rattle.tableau_rows.proofs.FirstRows.{parts_total}
+use Rattle.tableau_rows.proofs.TotalLaws.{total_push, unit_other, coefficient_none}
+use Rattle.tableau_rows.proofs.FirstRowLaws.{parts_total}
 use Rattle.bounded_simplex.specs.TableauOf.{Solves, AllHold, AreApart, TableauOf, IsOfRow}
 
 -- what the entries of a row's equation add up to

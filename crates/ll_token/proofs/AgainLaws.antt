@@ -14,9 +14,9 @@ use Rattle.ll_token.specs.Names.{IsRun, Writes, StandsFor}
 use Rattle.ll_token.specs.Lexemes.{IsToken, IsFlaw, IsLead, BeginsNoToken, IsPlainRun}
 use Rattle.ll_token.specs.Lexemes.BeginsNoToken.{other_byte, no_name, no_hash, empty_name, empty_label}
 use Rattle.ll_token.specs.Reading.{lexeme, bad_byte, inside_at, bare_name, quoted_name, name_at, string_at, run_at, lexeme_at}
-use Rattle.ll_token.proofs.Lists.{apart, prefix_is, front_byte}
-use Rattle.ll_token.proofs.Pieces.{StandsFor-length}
-use Rattle.ll_token.proofs.Strings.{begins_parts, inside_again, open_again, bad_again, open_string, bad_escape}
+use Rattle.ll_token.proofs.ListLaws.{apart, prefix_is, front_byte}
+use Rattle.ll_token.proofs.PieceLaws.{StandsFor-length}
+use Rattle.ll_token.proofs.StringLaws.{begins_parts, inside_again, open_again, bad_again, open_string, bad_escape}
 
 -- what is read at the front, behind no gap
 pub record Starts (bytes : List ℕ) (read : Result Lexeme Flaw) : Type 0 where

@@ -8,7 +8,7 @@ use Rattle.wx_num.specs.declared.excess.NumOp.TheVariants.{Plus, Times}
 use Rattle.tableau_rows.specs.declared.entry.Entry.{Entry}
 use Rattle.tableau_rows.specs.Equation.{total}
 use Rattle.tableau_rows.specs.Turning.{others, IsSumStep}
-use Rattle.tableau_rows.proofs.Totals.{total_push}
+use Rattle.tableau_rows.proofs.TotalLaws.{total_push}
 
 is_other : (a b : ℕ) → a ≢ b → not (eqb a b) ≡ true
 is_other a b h = grind (arith, nat_tests)
