@@ -5,7 +5,7 @@ use Rattle.ll_token.specs.declared.token.TokenKind.{TokenKind}
 use Rattle.ll_token.specs.declared.token.TokenKind.TheVariants as kinds
 use Rattle.ll_token.specs.Bytes.{begins, is_run_byte}
 use Rattle.ll_token.specs.Names.{Writes, StandsFor}
-use Rattle.ll_token.specs.Lexemes.{Holds, has_name}
+use Rattle.ll_token.specs.Lexemes.{HoldsName, has_name}
 use Rattle.ll_token.specs.Reading.{piece_at}
 use Rattle.ll_token.proofs.ListLaws.{apart, front_byte}
 use Rattle.ll_token.proofs.PieceLaws.{piece_again, shorter}
@@ -41,7 +41,7 @@ written-is body after name (inr q) =
     ∙ ap (unescaped_within (length body)) inside
     ∙ unescaped-is q.inner name (length body) q.escapes fits)
 
-pub holds-name_in : (kind : TokenKind) (text after name : List ℕ) → Holds kind text after name → name ≡ name_in kind text
+pub holds-name_in : (kind : TokenKind) (text after name : List ℕ) → HoldsName kind text after name → name ≡ name_in kind text
 holds-name_in kinds.Local text after name (body, e, w, some) = written-is body after name w ∙ ap (λ (x : List ℕ). written (drop 1 x)) (sym e)
 holds-name_in kinds.Global text after name (body, e, w, some) = written-is body after name w ∙ ap (λ (x : List ℕ). written (drop 1 x)) (sym e)
 holds-name_in kinds.Label text after name (body, e, w, some) =
@@ -56,7 +56,7 @@ holds-name_in kinds.Hash text after name holds = absurd holds
 holds-name_in kinds.Mark text after name holds = absurd holds
 
 -- a name that a call gave
-pub holds_held : {E : Type 0} (kind : TokenKind) (text after : List ℕ) (made : Result (List ℕ) E) → has_name kind ≡ true → IfOk made (Holds kind text after) → IfOk made (λ name. name ≡ held_name kind text)
+pub holds_held : {E : Type 0} (kind : TokenKind) (text after : List ℕ) (made : Result (List ℕ) E) → has_name kind ≡ true → IfOk made (HoldsName kind text after) → IfOk made (λ name. name ≡ held_name kind text)
 unfolding held_name
 holds_held kind text after (Ok name) named holds = holds-name_in kind text after name holds ∙ sym (ap (λ b. cond b (name_in kind text) []) named)
 holds_held kind text after (Err e) named holds = tt
