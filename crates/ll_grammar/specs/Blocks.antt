@@ -9,14 +9,10 @@ use Rattle.ll_grammar.specs.declared.stop.Place.TheVariants as place
 use Rattle.ll_grammar.specs.declared.block.Item.{Item}
 use Rattle.ll_grammar.specs.declared.block.Item.TheVariants as item
 use Rattle.ll_grammar.specs.Tokens.{Tok, is_empty, word_at, kind_at, mark_at, name_at, debug_at, line_at, behind_line}
-use Rattle.ll_grammar.specs.Reading.{Read, Done, RanOut, ◌>>=◌, take_if, mark, name}
+use Rattle.ll_grammar.specs.Reading.{Read, Done, RanOut, ◌>>=◌, mark, name, metadatum}
 use Rattle.ll_grammar.specs.Forms.{is_call_word, assume, operation, phi, terminator}
 
 -- ---- what has no meaning
-
--- a `!` and what follows it
-unfoldable pub metadatum : List Tok → Read Unit
-metadatum ts = take_if (kind_at kinds.Meta ts) (tt {0}) place.Other ts
 
 -- `, META META`, so many times at most
 unfoldable pub metadata_within : ℕ → List Tok → Read Unit

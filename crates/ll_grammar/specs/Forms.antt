@@ -1,5 +1,5 @@
 -- The forms of instructions and terminators (LLVM Language Reference, "Instruction Reference").
-use Rattle.std.specs.Prelude.{ℕ, zero, suc, Bool, ◌&&◌, ◌||◌, ◌==◌, List, [], ◌∷◌, ◌++◌, length, drop, codes, Option, None, if◌then◌else◌}
+use Rattle.std.specs.Prelude.{ℕ, zero, suc, Bool, true, false, ◌&&◌, ◌||◌, ◌==◌, List, [], ◌∷◌, ◌++◌, length, drop, codes, Option, None, if◌then◌else◌}
 use Rattle.std.specs.Option.{option_map_or}
 use Rattle.std.specs.Str.{bytes_eq}
 use Rattle.ll_token.specs.declared.token.TokenKind.TheVariants as kinds
@@ -20,7 +20,7 @@ use Rattle.ll_grammar.specs.declared.opcodes.Callee.{Callee}
 use Rattle.ll_grammar.specs.declared.opcodes.Callee.TheVariants as callee
 use Rattle.ll_grammar.specs.Tokens.{Tok, word_at, kind_at, mark_at, name_at, group_at}
 use Rattle.ll_grammar.specs.Words.{binary_of, cast_of, pred_of, callee_of, takes, cast_takes, compare_takes, no_flags, add_flag}
-use Rattle.ll_grammar.specs.Reading.{Read, Done, RanOut, ◌>>=◌, stopped, take_if, take_some, mark, keyword, name, width, one_width, literal}
+use Rattle.ll_grammar.specs.Reading.{Read, Done, RanOut, ◌>>=◌, stopped, take_if, take_some, mark, keyword, name, metadatum, width, one_width, literal}
 
 -- ---- operands
 
@@ -162,17 +162,23 @@ entry w ts =
     name kinds.Local place.Other ts >>= λ from ts. mark 93 ts >>= λ _ ts.
     Done (record { value = x; from = from }) ts
 
--- a comma and one entry more
-unfoldable pub entry_at : List Tok → Bool
-entry_at ts = mark_at 44 ts && mark_at 91 (drop 1 ts)
+-- Behind an entry and a comma stands another entry, which is left, or the phi's first pair of metadata.
+unfoldable pub behind_comma : List Tok → Read Bool
+behind_comma ts =
+    if mark_at 91 ts then Done true ts
+    else (metadatum ts >>= λ _ ts. metadatum ts >>= λ _ ts. Done false ts)
+
+-- whether another entry follows
+unfoldable pub another : List Tok → Read Bool
+another ts = if mark_at 44 ts then behind_comma (drop 1 ts) else Done false ts
 
 -- entries behind these, so many at most
-abbrev pub entries_behind : (List PhiEntry → List Tok → Read (List PhiEntry)) → List PhiEntry → List Tok → Read (List PhiEntry)
-entries_behind more entries ts = if entry_at ts then more entries (drop 1 ts) else Done entries ts
+abbrev pub entries_behind : (List PhiEntry → List Tok → Read (List PhiEntry)) → Bool → List PhiEntry → List Tok → Read (List PhiEntry)
+entries_behind more follows entries ts = if follows then more entries ts else Done entries ts
 
 unfoldable pub entries : ℕ → ℕ → List PhiEntry → List Tok → Read (List PhiEntry)
 entries w zero so_far ts = RanOut
-entries w (suc most) so_far ts = entry w ts >>= λ e ts. entries_behind (entries w most) (so_far ++ e ∷ []) ts
+entries w (suc most) so_far ts = entry w ts >>= λ e ts. another ts >>= λ follows ts. entries_behind (entries w most) follows (so_far ++ e ∷ []) ts
 
 -- behind `%r = phi`
 unfoldable pub phi : List ℕ → List Tok → Read Phi

@@ -1,6 +1,7 @@
 -- Readings: what the front of a list of tokens gives, and how readings are put together.
 use Rattle.std.specs.Prelude.{◌≡◌, ℕ, Bool, Option, Some, None, List, [], ◌∷◌, drop, Result, Ok, Err, if◌then◌else◌}
 use Rattle.ll_token.specs.declared.token.TokenKind.{TokenKind}
+use Rattle.ll_token.specs.declared.token.TokenKind.TheVariants as kinds
 use Rattle.std.specs.Str.{bytes_eq}
 use Rattle.ll_grammar.specs.Tokens.{Tok, kind_at, mark_at, word_at, name_at}
 use Rattle.ll_grammar.specs.Words.{width_of, has_width, literal_of}
@@ -50,6 +51,10 @@ keyword word ts = take_if (bytes_eq (word_at ts) word) (tt {0}) place.Other ts
 -- a token that holds a name
 unfoldable pub name : TokenKind → Place → List Tok → Read (List ℕ)
 name kind at ts = take_if (kind_at kind ts) (name_at ts) at ts
+
+-- a `!` and what follows it
+unfoldable pub metadatum : List Tok → Read Unit
+metadatum ts = take_if (kind_at kinds.Meta ts) (tt {0}) place.Other ts
 
 -- the next token, where it gives a value
 abbrev pub take_some : {A : Type 0} → Option A → Place → List Tok → Read A

@@ -31,7 +31,7 @@ use Rattle.ll_tree.specs.declared.op.CastKind.{CastKind}
 use Rattle.ll_tree.specs.declared.op.CastKind.TheVariants as cast
 use Rattle.ll_tree.specs.declared.op.Pred.{Pred}
 use Rattle.ll_tree.specs.declared.op.Pred.TheVariants as pred
-use Rattle.ll_grammar.specs.Tokens.{Tok, held_name, has_prefix, debug_at}
+use Rattle.ll_grammar.specs.Tokens.{Tok, held_name, has_prefix, is_debug, debug_at}
 use Rattle.ll_grammar.specs.Words.{takes, cast_takes, compare_takes}
 
 -- ---- single tokens
@@ -280,7 +280,7 @@ LeavesLine line (t ∷ ts) = t.line ≡ line → ⊥
 abbrev pub ArePassed : ℕ → (ts rest : List Tok) → Type 0
 ArePassed zero ts rest = ts ≡ rest
 ArePassed (suc more) ts rest =
-    (t : Tok) × (others a : List Tok) × (ts ≡ t ∷ (others ++ a)) × (t.debug ≡ true) × All (λ (o : Tok). o.line ≡ t.line) others × LeavesLine t.line a × ArePassed more a rest
+    (t : Tok) × (others a : List Tok) × (ts ≡ t ∷ (others ++ a)) × (is_debug t ≡ true) × All (λ (o : Tok). o.line ≡ t.line) others × LeavesLine t.line a × ArePassed more a rest
 
 -- a statement, behind lines that are passed over and before its metadata; it begins no such line itself
 abbrev pub IsStatement : ((ts rest : List Tok) → Type 0) → (ts rest : List Tok) → Type 0

@@ -124,9 +124,16 @@ unfoldable pub kind_at : TokenKind → List Tok → Bool
 kind_at kind [] = false
 kind_at kind (t ∷ ts) = is_kind t.kind kind
 
+-- Lines without a meaning begin with a Hash or a word.
+abbrev pub starts_debug : TokenKind → Bool
+starts_debug kind = is_kind kind kinds.Hash || is_kind kind kinds.Word
+
+abbrev pub is_debug : Tok → Bool
+is_debug t = starts_debug t.kind && t.debug
+
 unfoldable pub debug_at : List Tok → Bool
 debug_at [] = false
-debug_at (t ∷ ts) = t.debug
+debug_at (t ∷ ts) = is_debug t
 
 -- what stands behind the tokens of a line
 unfoldable pub behind_line : ℕ → List Tok → List Tok

@@ -3,7 +3,7 @@
 ghost use Rattle.std.specs.Prelude.{◌≡◌, ◌∷◌, [], length, OnOk};
 ghost use Rattle.ll_grammar.specs.Reading.{Gives};
 ghost use Rattle.ll_grammar.specs.Tokens.{is_empty};
-ghost use Rattle.ll_grammar.specs.Blocks.{metadatum, metadata, passed, assignment, bare_statement, statement, block, entry_block, labelled_block, blocks_within, blocks};
+ghost use Rattle.ll_grammar.specs.Blocks.{metadata, passed, assignment, bare_statement, statement, block, entry_block, labelled_block, blocks_within, blocks};
 
 use crate::call::{assume, is_call_word};
 use crate::cursor::Cursor;
@@ -24,18 +24,6 @@ pub enum Item {
     End(End),
 }
 
-/// A `!` and what follows it.
-#[tactic(auto, unfolding(crate::specs::Blocks::metadatum))]
-fn metadatum(cursor: &mut Cursor) -> Result<(), Stop>
-    ensures { Gives result cursor.new (metadatum cursor.old) }
-{
-    if !cursor.is_kind(TokenKind::Meta) {
-        return cursor.stop(Place::Other);
-    }
-    cursor.advance();
-    Ok(())
-}
-
 /// Pairs of metadata, each behind a comma.
 #[tactic(auto, unfolding(crate::specs::Blocks::metadata))]
 fn metadata(cursor: &mut Cursor) -> Result<(), Stop>
@@ -47,8 +35,8 @@ fn metadata(cursor: &mut Cursor) -> Result<(), Stop>
             return Ok(());
         }
         cursor.advance();
-        metadatum(cursor)?;
-        metadatum(cursor)?;
+        cursor.metadatum()?;
+        cursor.metadatum()?;
     }
     Ok(())
 }

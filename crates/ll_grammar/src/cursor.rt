@@ -6,7 +6,7 @@ ghost use Rattle.ll_token.specs.declared.token.Token.{Token};
 ghost use Rattle.ll_grammar.specs.Tokens.{is_empty, seen, word_at, mark_at, kind_at, group_at, name_at, debug_at, line_at, text_at, behind_line};
 ghost use Rattle.ll_grammar.specs.Reading.{Gives, stopped, literal_at};
 
-use crate::debug::{has_prefix, is_debug_line, line_len};
+use crate::debug::{has_prefix, is_debug_line, line_len, starts_debug};
 use crate::naming::held_name;
 use crate::stop::{Place, Stop, refused};
 use crate::words::literal_of;
@@ -145,22 +145,6 @@ impl<'a> Cursor<'a> {
         }
     }
 
-    /// Whether this mark stands behind the next token.
-    #[tactic(auto, unfolding(crate::specs::Tokens::seen, crate::specs::Tokens::mark_at))]
-    pub fn is_mark_behind(&self, byte: u8) -> bool
-        ensures { result ≡ mark_at byte (drop 1 self.now) }
-    {
-        let [_, rest @ ..] = self.tokens else {
-            return false;
-        };
-        match rest.first() {
-            Some(token) => {
-                token.kind == TokenKind::Mark && token.bytes(self.text) == [byte].as_slice()
-            }
-            None => false,
-        }
-    }
-
     /// Whether a group of attributes comes next: a `#` and what is no debug record.
     #[tactic(auto, unfolding(crate::specs::Tokens::seen, crate::specs::Tokens::group_at))]
     pub fn is_group(&self) -> bool
@@ -203,7 +187,7 @@ impl<'a> Cursor<'a> {
         let Some(token) = self.tokens.first() else {
             return Ok(false);
         };
-        if token.line == self.line {
+        if token.line == self.line || !starts_debug(token.kind) {
             return Ok(false);
         }
         let (line, _) = self.tokens.split_at(line_len(token.line, self.tokens));

@@ -2,7 +2,7 @@
 
 ghost use Rattle.std.specs.Prelude.{◌≡◌, All, ◌≤◌, IfOk, length};
 ghost use Rattle.ll_token.specs.Scan.{IsTokenOf};
-ghost use Rattle.ll_grammar.specs.Tokens.{is_kind, has_prefix, line_len, names_debug, is_word, is_before_call, begins_call, is_record, is_debug_line};
+ghost use Rattle.ll_grammar.specs.Tokens.{is_kind, has_prefix, line_len, names_debug, is_word, is_before_call, begins_call, is_record, starts_debug, is_debug_line};
 
 use crate::naming::held_name;
 use crate::words::is_text;
@@ -92,6 +92,13 @@ fn is_record(text: &[u8], line: &[Token]) -> bool
         [] => false,
         [first, ..] => first.kind == TokenKind::Hash && has_prefix(b"#dbg_", first.bytes(text)),
     }
+}
+
+/// Whether a line without a meaning may begin with a token of this kind.
+pub fn starts_debug(kind: TokenKind) -> bool
+    ensures { result ≡ starts_debug kind }
+{
+    is_kind(kind, TokenKind::Hash) || is_kind(kind, TokenKind::Word)
 }
 
 /// Whether a line, from its first token on, is a debug record or a call of a debug function.

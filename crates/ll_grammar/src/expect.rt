@@ -1,7 +1,7 @@
 //! One token, where it may stand.
 
 ghost use Rattle.std.specs.Prelude.{◌≡◌, ◌≤◌, IfOk};
-ghost use Rattle.ll_grammar.specs.Reading.{Gives, mark, keyword, name, width, one_width, literal};
+ghost use Rattle.ll_grammar.specs.Reading.{Gives, mark, keyword, name, metadatum, width, one_width, literal};
 
 use crate::cursor::Cursor;
 use crate::opcodes::has_width;
@@ -47,6 +47,18 @@ impl<'a> Cursor<'a> {
         let name = self.next_name(alloc)?;
         self.advance();
         Ok(name)
+    }
+
+    /// Reads a `!` and what follows it.
+    #[tactic(auto, unfolding(crate::specs::Reading::metadatum))]
+    pub fn metadatum(&mut self) -> Result<(), Stop>
+        ensures { Gives result self.new (metadatum self.old) }
+    {
+        if !self.is_kind(TokenKind::Meta) {
+            return self.stop(Place::Other);
+        }
+        self.advance();
+        Ok(())
     }
 
     /// Reads an integer type, and gives its width.

@@ -2,7 +2,7 @@
 
 ghost use Rattle.std.specs.Prelude.{◌≡◌, ◌≤◌, [], length};
 ghost use Rattle.ll_grammar.specs.Reading.{Gives, Done};
-ghost use Rattle.ll_grammar.specs.Forms.{flags, binary, compare, conversion, select, operation, entry, entry_at, entries, phi};
+ghost use Rattle.ll_grammar.specs.Forms.{flags, binary, compare, conversion, select, operation, entry, behind_comma, another, entries, phi};
 
 use crate::call::{is_call_word, value_call};
 use crate::cursor::Cursor;
@@ -136,14 +136,6 @@ pub fn operation(alloc: Global, cursor: &mut Cursor) -> Result<Op, Stop>
     cursor.stop(Place::Form)
 }
 
-/// Whether a comma and one entry more come next.
-#[tactic(auto, unfolding(crate::specs::Forms::entry_at))]
-fn is_entry(cursor: &Cursor) -> bool
-    ensures { result ≡ entry_at cursor.now }
-{
-    cursor.is_mark(b',') && cursor.is_mark_behind(b'[')
-}
-
 /// `[ OP, %l ]`.
 #[tactic(auto, unfolding(crate::specs::Forms::entry))]
 fn entry(alloc: Global, cursor: &mut Cursor, width: u32) -> Result<PhiEntry, Stop>
@@ -158,6 +150,32 @@ fn entry(alloc: Global, cursor: &mut Cursor, width: u32) -> Result<PhiEntry, Sto
     Ok(PhiEntry { value, from })
 }
 
+/// Behind an entry and a comma: whether another entry follows, which is left. Else a pair of metadata is
+/// passed over.
+#[tactic(auto, unfolding(crate::specs::Forms::behind_comma))]
+fn behind_comma(cursor: &mut Cursor) -> Result<bool, Stop>
+    ensures { Gives result cursor.new (behind_comma cursor.old) }
+{
+    if cursor.is_mark(b'[') {
+        return Ok(true);
+    }
+    cursor.metadatum()?;
+    cursor.metadatum()?;
+    Ok(false)
+}
+
+/// Whether another entry follows.
+#[tactic(auto, unfolding(crate::specs::Forms::another))]
+fn another(cursor: &mut Cursor) -> Result<bool, Stop>
+    ensures { Gives result cursor.new (another cursor.old) }
+{
+    if !cursor.is_mark(b',') {
+        return Ok(false);
+    }
+    cursor.advance();
+    behind_comma(cursor)
+}
+
 /// Entries, one at least. Each takes tokens, so there are no more of them than of those.
 fn entries(alloc: Global, cursor: &mut Cursor, width: u32) -> Result<PhiEntries, Stop>
     requires { width ≤ 32 }
@@ -167,10 +185,9 @@ fn entries(alloc: Global, cursor: &mut Cursor, width: u32) -> Result<PhiEntries,
     let most = cursor.len();
     for _ in 0..most {
         entries.push(entry(alloc, cursor, width)?)?;
-        if !is_entry(cursor) {
+        if !another(cursor)? {
             return Ok(entries);
         }
-        cursor.advance();
     }
     Err(Stop::RanOut)
 }

@@ -8,9 +8,15 @@ returns-in_err-entry c =
     let left : c.len-most.result - c.loop.counter ≡ suc (c.len-most.result - (c.loop.counter + 1)) = omega arith in
     rw (← c.loop.invariant) (rw left (search rules))
 
-pub returns-then-not-is_entry : goal.returns-then-not-is_entry
+pub returns-in_err-another : goal.returns-in_err-another
 unfolding entries
-returns-then-not-is_entry c =
+returns-in_err-another c =
+    let left : c.len-most.result - c.loop.counter ≡ suc (c.len-most.result - (c.loop.counter + 1)) = omega arith in
+    rw (← c.loop.invariant) (rw left (search rules))
+
+pub returns-then-not-branch : goal.returns-then-not-branch
+unfolding entries
+returns-then-not-branch c =
     let left : c.len-most.result - c.loop.counter ≡ suc (c.len-most.result - (c.loop.counter + 1)) = omega arith in
     rw (← c.loop.invariant) (rw left (search rules))
 
