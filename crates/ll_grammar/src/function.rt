@@ -1,8 +1,9 @@
 //! A whole function, without the brace that closes it.
 
-ghost use Rattle.std.specs.Prelude.{◌≡◌};
+ghost use Rattle.std.specs.Prelude.{◌≡◌, IfOk};
 ghost use Rattle.ll_grammar.specs.Reading.{Gives};
 ghost use Rattle.ll_grammar.specs.Header.{function};
+ghost use Rattle.ll_grammar.specs.Spells.{SpellsFunction, IsAnswerFor};
 
 use crate::block::blocks;
 use crate::cursor::Cursor;
@@ -12,12 +13,22 @@ use ll_token::TokenKind;
 use ll_tree::Func;
 use std::alloc::Global;
 
-/// Reads the function that the tokens before its last brace spell.
+/// Reads the function that the tokens before its last brace spell, which is one at most.
 ///
 /// Answers `Refused` where the grammar can't go on with a token: the cursor stands at it. Answers `RanOut`
 /// where the tokens ended before the function did.
-#[tactic(auto, unfolding(crate::specs::Header::function))]
+#[tactic(auto, using(crate::proofs::SentenceLaws::spelled_by, crate::proofs::SentenceLaws::only_by))]
 pub fn read_function(alloc: Global, cursor: &mut Cursor) -> Result<Func, Stop>
+    ensures reads { Gives result cursor.new (function cursor.old) }
+    ensures spelled { IfOk result (λ func. SpellsFunction func cursor.old) }
+    ensures only { (func : Func) → SpellsFunction func cursor.old → IsAnswerFor result func }
+{
+    definition(alloc, cursor)
+}
+
+/// The same, by the reading of a function.
+#[tactic(auto, unfolding(crate::specs::Header::function))]
+fn definition(alloc: Global, cursor: &mut Cursor) -> Result<Func, Stop>
     ensures { Gives result cursor.new (function cursor.old) }
 {
     cursor.keyword(b"define")?;

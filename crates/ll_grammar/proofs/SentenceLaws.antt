@@ -1,0 +1,28 @@
+-- What an answer says of the trees that the tokens spell.
+use Rattle.std.proofs.Common.{◌≡◌, List, [], Result, Ok, Err, IfOk, IfErr, refl, sym, ap, ◌∙◌, subst}
+use Rattle.ll_tree.specs.declared.func.Func.{Func}
+use Rattle.ll_grammar.specs.declared.stop.Stop.{Stop}
+use Rattle.ll_grammar.specs.declared.stop.Stop.TheVariants as stop
+use Rattle.ll_grammar.specs.Tokens.{Tok}
+use Rattle.ll_grammar.specs.Reading.{Read, Done, Fault, RanOut, Gives}
+use Rattle.ll_grammar.specs.Header.{function}
+use Rattle.ll_grammar.specs.Spells.{SpellsFunction, IsAnswerFor}
+use Rattle.ll_grammar.proofs.DoneLaws.{Holds, when_done}
+use Rattle.ll_grammar.proofs.HeaderLaws.{function_sound}
+use Rattle.ll_grammar.proofs.HeaderReadLaws.{function_reads}
+
+pub spelled_by : (result : Result Func Stop) (left ts : List Tok) → Gives result left (function ts) → IfOk result (λ func. SpellsFunction func ts)
+spelled_by (Ok f) left ts e = (when_done (function_sound ts) e).0
+spelled_by (Err s) left ts e = tt
+
+done_is : (f g : Func) (a b : List Tok) → Done f a ≡ Done g b → f ≡ g
+done_is f g a b e = subst (λ r. Holds r (λ x _. f ≡ x)) e refl
+
+done_no_fault : {A : Type 0} (f : A) (a : List Tok) (r : Read A) → Done f a ≡ r → (Holds r (λ _ _. ⊥) → ⊥)
+done_no_fault f a r e = subst (λ r. Holds r (λ _ _. ⊥) → ⊥) e (λ h. h)
+
+pub only_by : (result : Result Func Stop) (left ts : List Tok) → Gives result left (function ts) → (func : Func) → SpellsFunction func ts → IsAnswerFor result func
+only_by (Ok f) left ts e func spells = done_is f func left [] (sym e ∙ function_reads func ts spells)
+only_by (Err (stop.Refused r)) left ts e func spells = absurd (done_no_fault func [] (Fault r left) (sym (function_reads func ts spells) ∙ e) tt)
+only_by (Err stop.RanOut) left ts e func spells = absurd (done_no_fault func [] RanOut (sym (function_reads func ts spells) ∙ e) tt)
+only_by (Err stop.NoMemory) left ts e func spells = refl
