@@ -106,7 +106,7 @@ entry_block_sound unwritten ts =
     inl (p.0, passed ts, drop 1 (passed ts), p.1, (k.0, k.1, k.2, k.3 ∙ sym w.0), w.1)))
     (λ _. weaken (block_sound unwritten (passed ts)) (λ b rest w. inr (w.0, before_block b ts (passed ts) rest p.0 p.1 w.1)))
 
-labelled_block_sound : (ts : List Tok) → OnDone (labelled_block ts) (λ b rest. (a : List Tok) × IsNameOf kinds.Label b.label ts a × SpellsBlock b a rest)
+pub labelled_block_sound : (ts : List Tok) → OnDone (labelled_block ts) (λ b rest. (a : List Tok) × IsNameOf kinds.Label b.label ts a × SpellsBlock b a rest)
 unfolding labelled_block
 labelled_block_sound ts = on_then _ _ (name_sound kinds.Label place.BehindEnd ts) (λ label a named. weaken (block_sound label a) (λ b rest w.
     (a, subst (λ l. IsNameOf kinds.Label l ts a) (sym w.0) named, w.1)))

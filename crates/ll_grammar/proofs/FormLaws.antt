@@ -106,7 +106,7 @@ branch_sound start ts br = on_if (bytes_eq (word_at ts) (codes "label")) _ _
     on_then _ _ (next_target_sound b) (λ left c l. on_then _ _ (next_target_sound c) (λ right d r.
     on_done (ts, b, c, br, (a, bit_type ts a bit, o), l, r))))))
 
-case_sound : (ts : List Tok) → OnDone (case ts) (λ c rest. SpellsCase c ts rest)
+pub case_sound : (ts : List Tok) → OnDone (case ts) (λ c rest. SpellsCase c ts rest)
 unfolding case
 case_sound ts = on_then _ _ (width_sound ts) (λ w a t. on_then _ _ (literal_sound w a) (λ n b l. on_then _ _ (next_target_sound b) (λ to c is. on_done (a, b, t, l, is))))
 

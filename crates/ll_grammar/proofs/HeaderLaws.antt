@@ -175,7 +175,7 @@ closing_sound : (at : Place) (ts : List Tok) → OnDone (closing at ts) (λ more
 unfolding closing
 closing_sound at ts = on_if (mark_at 44 ts) _ _ (λ is. on_done (mark_is 44 ts is)) (λ _. on_take_if _ _ _ ts (λ is. mark_is 41 ts is))
 
-param_sound : (unnamed : ℕ) (ts : List Tok) → OnDone (param unnamed ts) (λ p rest. (b : List Tok) × SpellsParam unnamed p.0 ts b × IsMark (closing_mark p.1) b rest)
+pub param_sound : (unnamed : ℕ) (ts : List Tok) → OnDone (param unnamed ts) (λ p rest. (b : List Tok) × SpellsParam unnamed p.0 ts b × IsMark (closing_mark p.1) b rest)
 unfolding param
 param_sound unnamed ts = on_then _ _ (param_type_sound ts) (λ typed a t. on_if (kind_at kinds.Local a) _ _
     (λ is. on_then _ _ (closing_sound place.Other (drop 1 a)) (λ more rest closes.

@@ -17,4 +17,8 @@ pub mod OpReadLaws
 pub mod StatementReadLaws
 pub mod BlockReadLaws
 pub mod HeaderReadLaws
+pub mod EarlyLaws
+pub mod EarlyFormLaws
+pub mod EarlyBlockLaws
+pub mod EarlyHeaderLaws
 pub mod SentenceLaws

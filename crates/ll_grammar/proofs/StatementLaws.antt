@@ -24,10 +24,10 @@ use Rattle.ll_grammar.proofs.OpLaws.{IsValued, operation_sound, assume_sound}
 
 -- ---- metadata
 
-abbrev IsMeta : (ts rest : List Tok) → Type 0
+abbrev pub IsMeta : (ts rest : List Tok) → Type 0
 IsMeta ts rest = (t : Tok) × (ts ≡ t ∷ rest) × (t.kind ≡ kinds.Meta)
 
-metadatum_sound : (ts : List Tok) → OnDone (metadatum ts) (λ _ rest. IsMeta ts rest)
+pub metadatum_sound : (ts : List Tok) → OnDone (metadatum ts) (λ _ rest. IsMeta ts rest)
 unfolding metadatum
 metadatum_sound ts = on_take_if _ _ _ ts (λ is. let k = kind_is kinds.Meta ts is in (k.0, k.1, k.2))
 
@@ -41,7 +41,7 @@ join_metadata (suc m) n ts a rest here more =
     let w = join_metadata m n here.3 a rest here.9 more in
     (suc w.0, (here.0, here.1, here.2, here.3, here.4, here.5, here.6, here.7, here.8, w.1))
 
-abbrev SomeMetadata : (ts rest : List Tok) → Type 0
+abbrev pub SomeMetadata : (ts rest : List Tok) → Type 0
 SomeMetadata ts rest = (pairs : ℕ) × AreMetadata pairs ts rest
 
 metadata_within_sound : (most : ℕ) (ts : List Tok) → OnDone (metadata_within most ts) (λ _ rest. SomeMetadata ts rest)
@@ -58,14 +58,14 @@ metadata_sound ts = metadata_within_sound (length ts) ts
 
 -- ---- phis
 
-entry_sound : (w : ℕ) (ts : List Tok) → OnDone (entry w ts) (λ e rest. SpellsEntry w e ts rest)
+pub entry_sound : (w : ℕ) (ts : List Tok) → OnDone (entry w ts) (λ e rest. SpellsEntry w e ts rest)
 unfolding entry
 entry_sound w ts =
     on_then _ _ (mark_sound 91 ts) (λ _ a opens. on_then _ _ (operand_sound w a) (λ x b o. on_then _ _ (mark_sound 44 b) (λ _ c comma.
     on_then _ _ (name_sound kinds.Local place.Other c) (λ from d named. on_then _ _ (mark_sound 93 d) (λ _ e closes. on_done (a, b, c, d, opens, o, comma, named, closes))))))
 
 -- another entry follows behind a comma, or metadata do
-abbrev Follows : Bool → (ts rest : List Tok) → Type 0
+abbrev pub Follows : Bool → (ts rest : List Tok) → Type 0
 Follows true ts rest = IsMark 44 ts rest
 Follows false ts rest = SomeMetadata ts rest
 
@@ -75,7 +75,7 @@ behind_comma_sound start ts comma = on_if (mark_at 91 ts) _ _
     (λ _. on_done comma)
     (λ _. on_then _ _ (metadatum_sound ts) (λ _ b m. on_then _ _ (metadatum_sound b) (λ _ c n. on_done (1, one_pair 0 start ts b c c comma m n refl))))
 
-another_sound : (ts : List Tok) → OnDone (another ts) (λ follows rest. Follows follows ts rest)
+pub another_sound : (ts : List Tok) → OnDone (another ts) (λ follows rest. Follows follows ts rest)
 unfolding another
 another_sound ts = on_if (mark_at 44 ts) _ _ (λ is. behind_comma_sound ts (drop 1 ts) (mark_is 44 ts is)) (λ _. on_done (0, refl))
 
@@ -144,7 +144,7 @@ bare_statement_sound first ts = on_if (kind_at kinds.Local ts) _ _
 
 -- ---- lines that are passed over
 
-behind_line_is : (line : ℕ) (ts : List Tok) → (others : List Tok) × (ts ≡ others ++ behind_line line ts) × All (λ (o : Tok). o.line ≡ line) others × LeavesLine line (behind_line line ts) × (length (behind_line line ts) ≤ length ts)
+pub behind_line_is : (line : ℕ) (ts : List Tok) → (others : List Tok) × (ts ≡ others ++ behind_line line ts) × All (λ (o : Tok). o.line ≡ line) others × LeavesLine line (behind_line line ts) × (length (behind_line line ts) ≤ length ts)
 unfolding behind_line
 behind_line_is line [] = ([], refl, (λ k d within. absurd (omega arith)), tt, omega arith)
 behind_line_is line (t ∷ ts) = go (behind_line_is line ts) (eqb t.line line) refl

@@ -169,7 +169,7 @@ bare_statement_reads first (item.End e) ts a rest n is meta no_comma = (a, n, en
 
 -- ---- lines that are passed over
 
-behind_line_reads : (line : ℕ) (others a : List Tok) → All (λ (o : Tok). o.line ≡ line) others → LeavesLine line a → behind_line line (others ++ a) ≡ a
+pub behind_line_reads : (line : ℕ) (others a : List Tok) → All (λ (o : Tok). o.line ≡ line) others → LeavesLine line a → behind_line line (others ++ a) ≡ a
 unfolding behind_line
 behind_line_reads line [] [] all leaves = refl
 behind_line_reads line [] (t ∷ ts) all leaves = ap (λ b. cond b (behind_line line ts) (t ∷ ts)) (ne_eqb t.line line leaves)

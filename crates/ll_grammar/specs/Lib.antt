@@ -6,3 +6,4 @@ pub mod Forms
 pub mod Blocks
 pub mod Header
 pub mod Spells
+pub mod Sentences

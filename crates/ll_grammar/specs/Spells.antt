@@ -1,6 +1,6 @@
 -- What tokens spell, by recursion on the tree. Nothing here says how it is read: `X x ts rest` says that the tokens `ts`
 -- are a spelling of x and then `rest`.
-use Rattle.std.specs.Prelude.{◌≡◌, ◌⊎◌, ℕ, zero, suc, ◌+◌, ◌-◌, ◌*◌, ◌/◌, ◌%◌, ◌^◌, ◌<◌, ◌≤◌, Bool, true, false, ◌&&◌, ◌||◌, ◌==◌, IsTrue, List, [], ◌∷◌, ◌++◌, codes, Option, Some, None, Result, Ok, Err, if◌then◌else◌}
+use Rattle.std.specs.Prelude.{◌≡◌, ◌⊎◌, ℕ, zero, suc, ◌+◌, ◌-◌, ◌*◌, ◌/◌, ◌%◌, ◌^◌, ◌<◌, ◌≤◌, Bool, true, false, ◌&&◌, ◌||◌, ◌==◌, IsTrue, List, [], ◌∷◌, ◌++◌, codes, Option, Some, None, if◌then◌else◌}
 use Rattle.std.specs.List.{list_any, list_all, All}
 use Rattle.std.specs.Str.{bytes_eq}
 use Rattle.std.specs.Fmt.{decimal}
@@ -31,8 +31,6 @@ use Rattle.ll_tree.specs.declared.op.CastKind.{CastKind}
 use Rattle.ll_tree.specs.declared.op.CastKind.TheVariants as cast
 use Rattle.ll_tree.specs.declared.op.Pred.{Pred}
 use Rattle.ll_tree.specs.declared.op.Pred.TheVariants as pred
-use Rattle.ll_grammar.specs.declared.stop.Stop.{Stop}
-use Rattle.ll_grammar.specs.declared.stop.Stop.TheVariants as stop
 use Rattle.ll_grammar.specs.Tokens.{Tok, held_name, has_prefix, is_debug, debug_at}
 use Rattle.ll_grammar.specs.Words.{takes, cast_takes, compare_takes}
 
@@ -393,8 +391,3 @@ pub record SpellsFunction (f : Func) (ts : List Tok) : Type 0 where
   pub no_brace : All IsNoBrace between
   pub opens_body : IsMark 123 brace body
   pub is_body : SpellBody (decimal (count_unnamed 0 f.params)) f.blocks body []
-
--- Where the tokens spell this function the answer is it, unless memory is wanting.
-abbrev pub IsAnswerFor : Result Func Stop → Func → Type 0
-IsAnswerFor (Ok it) func = it ≡ func
-IsAnswerFor (Err why) func = why ≡ stop.NoMemory

@@ -1,0 +1,31 @@
+-- What an answer says of the functions that tokens spell.
+use Rattle.std.specs.Prelude.{◌≡◌, List, ◌∷◌, ◌++◌, Result, Ok, Err}
+use Rattle.ll_tree.specs.declared.func.Func.{Func}
+use Rattle.ll_grammar.specs.declared.stop.Refusal.{Refusal}
+use Rattle.ll_grammar.specs.declared.stop.Stop.{Stop}
+use Rattle.ll_grammar.specs.declared.stop.Stop.TheVariants as stop
+use Rattle.ll_grammar.specs.Tokens.{Tok}
+use Rattle.ll_grammar.specs.Reading.{Fault}
+use Rattle.ll_grammar.specs.Header.{function}
+use Rattle.ll_grammar.specs.Spells.{SpellsFunction}
+
+-- Where the tokens spell this function the answer is it, unless memory is wanting.
+abbrev pub IsAnswerFor : Result Func Stop → Func → Type 0
+IsAnswerFor (Ok it) func = it ≡ func
+IsAnswerFor (Err why) func = why ≡ stop.NoMemory
+
+-- The fault stands at the first of the tokens left. No tokens that begin with those up to it spell a function, and on all of
+-- them reading stops there with this fault.
+pub record StopsAt (fault : Refusal) (tokens left : List Tok) : Type 0 where
+  pub front : List Tok
+  pub token : Tok
+  pub behind : List Tok
+  pub whole : tokens ≡ front ++ token ∷ behind
+  pub stands : left ≡ token ∷ behind
+  pub never : (func : Func) (others : List Tok) → SpellsFunction func (front ++ token ∷ others) → ⊥
+  pub early : (others : List Tok) → function (front ++ token ∷ others) ≡ Fault fault (token ∷ others)
+
+-- where a token is refused
+abbrev pub Stops : Result Func Stop → (tokens left : List Tok) → Type 0
+Stops (Err (stop.Refused fault)) tokens left = StopsAt fault tokens left
+Stops answer tokens left = Unit {0}
