@@ -1,13 +1,17 @@
 -- What the grammar sees of tokens.
-use Rattle.std.proofs.Common.{◌≡◌, ◌+◌, ◌<◌, ◌≤◌, ℕ, suc, Bool, true, false, cond, eqb, List, [], ◌∷◌, length, drop, get_or, ap, refl, sym, ◌∙◌, arith, add-one, drop-cons, eq-eqb}
+use Rattle.std.proofs.Common.{◌≡◌, ◌+◌, ◌<◌, ◌≤◌, ℕ, suc, Bool, true, false, cond, eqb, List, [], ◌∷◌, length, drop, get_or, ap, refl, sym, ◌∙◌, arith, add-one, drop-cons, eq-eqb, true≢false}
 use Rattle.std.specs.List.{prefix_len}
-use Rattle.std.specs.Prelude.{codes}
+use Rattle.std.specs.Prelude.{codes, All}
+use Rattle.std.proofs.lemmas.List.Elements.{All-head, All-tail}
+use Rattle.ll_token.specs.declared.token.TokenKind.{TokenKind}
+use Rattle.ll_token.specs.Lexemes.{IsToken}
 use Rattle.std.proofs.lemmas.Bool.{eqb-true}
 use Rattle.std.proofs.lemmas.List.{drop_all}
 use Rattle.ll_token.specs.declared.token.Token.{Token}
 use Rattle.ll_token.specs.declared.token.TokenKind.TheVariants as kinds
-use Rattle.ll_token.specs.Scan.{text_of}
-use Rattle.ll_grammar.specs.Tokens.{seen, line_len, line_at, behind_line, names_debug, has_prefix, held_name, is_kind}
+use Rattle.ll_token.specs.Scan.{IsTokenOf, text_of}
+use Rattle.ll_grammar.specs.Tokens.{seen, line_len, line_at, behind_line, names_debug, has_prefix, held_name, is_kind, AreNamed}
+use Rattle.ll_grammar.proofs.NameLaws.{holds-name_in}
 
 pub length-seen : (text : List ℕ) (before : ℕ) (tokens : List Token) → length (seen text before tokens) ≡ length tokens
 unfolding seen
@@ -55,3 +59,15 @@ module _ (text : List ℕ) (line : List Token) (i : ℕ) (d : Token) (within : i
 pub names_debug-end : (text : List ℕ) (line : List Token) (i : ℕ) → length line ≤ i → names_debug text (drop i line) ≡ false
 unfolding names_debug
 names_debug-end text line i past = ap (names_debug text) (drop_all i line past)
+
+-- a local name of a text has a byte
+name_has_byte : (kind : TokenKind) (text after : List ℕ) → kind ≡ kinds.Local → IsToken kind text after → held_name kind text ≡ [] → ⊥
+unfolding held_name
+name_has_byte kinds.Local text after local (name, holds) none = let e : name ≡ [] = holds-name_in kinds.Local text after name holds ∙ none in omega (arith, holds.3, ap length e)
+name_has_byte other text after local form none = absurd (true≢false (sym (ap (λ kind. is_kind kind kinds.Local) local)))
+
+pub seen_named : (text : List ℕ) (before : ℕ) (tokens : List Token) → All (IsTokenOf text) tokens → AreNamed (seen text before tokens)
+unfolding seen
+seen_named text before [] each = tt
+seen_named text before (t ∷ ts) each =
+    ((λ local none. name_has_byte t.kind (text_of text t) _ local (All-head (IsTokenOf text) t ts each).form none), seen_named text t.line ts (All-tail (IsTokenOf text) t ts each))

@@ -11,6 +11,8 @@ pub mod StatementLaws
 pub mod BlockLaws
 pub mod HeaderLaws
 pub mod LengthLaws
+pub mod KeptLaws
+pub mod FormedLaws
 pub mod TokenReadLaws
 pub mod FormReadLaws
 pub mod OpReadLaws

@@ -3,7 +3,8 @@ use Rattle.std.proofs.Common.{◌≡◌, List, [], ◌∷◌, ◌++◌, Result, 
 use Rattle.ll_tree.specs.declared.func.Func.{Func}
 use Rattle.ll_grammar.specs.declared.stop.Stop.{Stop}
 use Rattle.ll_grammar.specs.declared.stop.Stop.TheVariants as stop
-use Rattle.ll_grammar.specs.Tokens.{Tok}
+use Rattle.ll_tree.specs.Formed.{IsFormed}
+use Rattle.ll_grammar.specs.Tokens.{Tok, AreNamed}
 use Rattle.ll_grammar.specs.Reading.{Read, Done, Fault, RanOut, Gives}
 use Rattle.ll_grammar.specs.Header.{function}
 use Rattle.ll_grammar.specs.Spells.{SpellsFunction}
@@ -13,11 +14,16 @@ use Rattle.ll_grammar.proofs.EarlyLaws.{Early}
 use Rattle.ll_grammar.proofs.EarlyHeaderLaws.{early_function}
 use Rattle.ll_grammar.proofs.DoneLaws.{Holds, when_done}
 use Rattle.ll_grammar.proofs.HeaderLaws.{function_sound}
+use Rattle.ll_grammar.proofs.FormedLaws.{function_formed}
 use Rattle.ll_grammar.proofs.HeaderReadLaws.{function_reads}
 
 pub spelled_by : (result : Result Func Stop) (left ts : List Tok) → Gives result left (function ts) → IfOk result (λ func. SpellsFunction func ts)
 spelled_by (Ok f) left ts e = (when_done (function_sound ts) e).0
 spelled_by (Err s) left ts e = tt
+
+pub formed_by : (result : Result Func Stop) (left ts : List Tok) → Gives result left (function ts) → AreNamed ts → IfOk result IsFormed
+formed_by (Ok f) left ts e named = function_formed f ts named (when_done (function_sound ts) e).0
+formed_by (Err s) left ts e named = tt
 
 done_is : (f g : Func) (a b : List Tok) → Done f a ≡ Done g b → f ≡ g
 done_is f g a b e = subst (λ r. Holds r (λ x _. f ≡ x)) e refl

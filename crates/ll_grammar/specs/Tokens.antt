@@ -1,5 +1,5 @@
 -- What the grammar sees of a token.
-use Rattle.std.specs.Prelude.{ℕ, zero, suc, ◌-◌, Bool, true, false, not, ◌&&◌, ◌||◌, ◌==◌, List, [], ◌∷◌, length, take, drop, codes, Option, Some, None, if◌then◌else◌}
+use Rattle.std.specs.Prelude.{◌≡◌, ℕ, zero, suc, ◌-◌, Bool, true, false, not, ◌&&◌, ◌||◌, ◌==◌, List, [], ◌∷◌, length, take, drop, codes, Option, Some, None, if◌then◌else◌}
 use Rattle.std.specs.List.{prefix_len}
 use Rattle.std.specs.Str.{bytes_eq}
 use Rattle.ll_token.specs.declared.token.Token.{Token}
@@ -159,3 +159,8 @@ group_at (t ∷ ts) = is_kind t.kind kinds.Hash && not (has_prefix (codes "#dbg_
 unfoldable pub text_at : List Tok → List ℕ
 text_at [] = []
 text_at (t ∷ ts) = t.text
+
+-- each local name has a byte at least
+abbrev pub AreNamed : List Tok → Type 0
+AreNamed [] = Unit {0}
+AreNamed (t ∷ ts) = (t.kind ≡ kinds.Local → held_name t.kind t.text ≡ [] → ⊥) × AreNamed ts

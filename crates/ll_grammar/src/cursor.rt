@@ -3,7 +3,7 @@
 ghost use Rattle.std.specs.Prelude.{◌≡◌, ◌+◌, ◌≤◌, List, All, drop, length, IfOk};
 ghost use Rattle.ll_token.specs.Scan.{IsTokenOf};
 ghost use Rattle.ll_token.specs.declared.token.Token.{Token};
-ghost use Rattle.ll_grammar.specs.Tokens.{is_empty, seen, word_at, mark_at, kind_at, group_at, name_at, debug_at, line_at, text_at, behind_line};
+ghost use Rattle.ll_grammar.specs.Tokens.{is_empty, seen, word_at, mark_at, kind_at, group_at, name_at, debug_at, line_at, text_at, behind_line, AreNamed};
 ghost use Rattle.ll_grammar.specs.Reading.{Gives, stopped, literal_at};
 
 use crate::debug::{has_prefix, is_debug_line, line_len, starts_debug};
@@ -38,9 +38,11 @@ impl<'a> Model for Cursor<'a> {
 
 impl<'a> Cursor<'a> {
     /// All tokens of a text, behind one that stands in the line `before`.
+    #[tactic(auto, using(crate::proofs::CursorLaws::seen_named))]
     pub fn new(text: &'a [u8], tokens: &'a [Token], before: u32) -> Cursor<'a>
         requires { All (IsTokenOf text.now) tokens.now }
-        ensures { result ≡ seen text.now before tokens.now }
+        ensures sees { result ≡ seen text.now before tokens.now }
+        ensures named { AreNamed result }
     {
         Cursor {
             text,

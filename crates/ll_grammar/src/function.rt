@@ -1,6 +1,8 @@
 //! A whole function, without the brace that closes it.
 
 ghost use Rattle.std.specs.Prelude.{◌≡◌, IfOk};
+ghost use Rattle.ll_tree.specs.Formed.{IsFormed};
+ghost use Rattle.ll_grammar.specs.Tokens.{AreNamed};
 ghost use Rattle.ll_grammar.specs.Reading.{Gives};
 ghost use Rattle.ll_grammar.specs.Header.{function};
 ghost use Rattle.ll_grammar.specs.Spells.{SpellsFunction};
@@ -18,11 +20,12 @@ use std::alloc::Global;
 ///
 /// Answers `Refused` where the grammar can't go on with a token: the cursor stands at it. Answers `RanOut`
 /// where the tokens ended before the function did.
-#[tactic(auto, using(crate::proofs::SentenceLaws::spelled_by, crate::proofs::SentenceLaws::only_by, crate::proofs::SentenceLaws::stops_by))]
+#[tactic(auto, using(crate::proofs::SentenceLaws::spelled_by, crate::proofs::SentenceLaws::only_by, crate::proofs::SentenceLaws::formed_by, crate::proofs::SentenceLaws::stops_by))]
 pub fn read_function(alloc: Global, cursor: &mut Cursor) -> Result<Func, Stop>
     ensures reads { Gives result cursor.new (function cursor.old) }
     ensures spelled { IfOk result (λ func. SpellsFunction func cursor.old) }
     ensures only { (func : Func) → SpellsFunction func cursor.old → IsAnswerFor result func }
+    ensures formed { AreNamed cursor.old → IfOk result IsFormed }
     ensures stops { Stops result cursor.old cursor.new }
 {
     definition(alloc, cursor)

@@ -110,6 +110,42 @@ define range(i8 0, 10) range(i8 0, 10) i8 @e(i8 %x) { => NotInProfile 1 range
 define i8 range(i8 0, 10) @e(i8 %x) { => Unexpected 1 range
 define returned i8 @e(i8 %x) { => NotInProfile 1 returned
 define i8 @e(i8 %x) nounwind } { => Unexpected 1 }
+%y = add 5, 1 => Unexpected 3 5
+%y = add i0 %x, 1 => BadWidth 3 i0
+%y = add i08 %x, 1 => BadWidth 3 i08
+%y = add ptr %x, 1 => NotInProfile 3 ptr
+%y = select 1 true, i8 1, i8 2 => Unexpected 3 1
+%y = select ptr true, i8 1, i8 2 => NotInProfile 3 ptr
+define i33 @e(i8 %x) { => BadWidth 1 i33
+define 5 @e(i8 %x) { => Unexpected 1 5
+define range(i8 0, 10) i33 @e(i8 %x) { => BadWidth 1 i33
+define range(i8 0, 10) ptr @e(i8 %x) { => NotInProfile 1 ptr
+define range(i8 0, 10) @e(i8 %x) { => Unexpected 1 @e
+define i8 @e(i33 %x) { => BadWidth 1 i33
+define i8 @e(noundef i8 %x) { => NotInProfile 1 noundef
+define i8 @e(%x) { => Unexpected 1 %x
+define i8 @e(i8 @x) { => Unexpected 1 @x
+define i8 %e(i8 %x) { => Unexpected 1 %e
+@y = add i8 %x, 1 => Unexpected 3 @y
+, !dbg !2 => Unexpected 3 ,
+%y = 5 => Unexpected 3 5
+%y = switch i8 %x => Unexpected 3 switch
+call void @llvm.assume(i1 true)~%p = phi i8 [ 1, %a ] => Unexpected 4 phi
+call void 5 => Unexpected 3 5
+%y = add i8 true, 1 => BadLiteral 3 true
+%y = add i8 %x, false => BadLiteral 3 false
+%y = add i8 -129, %x => BadLiteral 3 -129
+%y = add i8 @x, 1 => Unexpected 3 @x
+switch i8 %x, label %a [ i8 undef, label %b ] => NotInProfile 3 undef
+switch i8 %x, label %a [ i8 %x, label %b ] => Unexpected 3 %x
+define i8 @e(i8 range(i8 0, undef) %x) { => NotInProfile 1 undef
+br 5 => Unexpected 3 5
+br ptr %x => Unexpected 3 ptr
+unreachable~} => NoLabel 4 }
+unreachable~#dbg_value(i8 %x) => NoLabel 4 #dbg_value
+unreachable, !prof !3 5 => NoLabel 3 5
+%p = phi i8 [ 1, %a ], => Unexpected 4 ret
+%p = phi i8 [ 1, %a ], !dbg => Unexpected 4 ret
 %y = and i8 %x, 1 => read
 %y = zext nneg i8 %x to i16 => read
 %y = call i8 @"llvm.abs.i8"(i8 %x, i1 -1) #1, !dbg !2 => read
@@ -129,6 +165,12 @@ tail call void @llvm.assume(i1 %c) #4, !dbg !2 => read
 unreachable~b:~br label %b~c:~br i1 %x, label %a, label %b, !prof !2~d: switch i8 %x, label %m [ ]~e: switch i8 %x, label %m [ i8 1, label %b i9 -1, label %c ], !prof !9~f: => read
 %y = add i8 %x, 1~%p = phi i8 [ %x, %a ] => Unexpected 4 phi
 #dbg_value(i8 %x), !dbg !2~, !dbg !3 => Unexpected 4 ,
+%p = phi i8 [ 1, %a ]~#dbg_x~%q = phi i8 [ 1, %a ], [ 2, %b ], !dbg !2, !x !3~call void @llvm.dbg.value()~%y = add i8 %p, 1, !dbg !2~#dbg_y, !2 => read
+%y = add nuw nsw i8 %x, 1~%z = sub nsw i8 %y, 1~%w = mul nuw i8 %z, 1~%v = shl nuw nsw i8 %w, 1 => read
+%y = ashr exact i8 %x, 1~%z = udiv exact i8 %y, 3~%w = trunc nuw nsw i8 %z to i4~%v = trunc nuw i4 %w to i2 => read
+%y = lshr i8 %x, 1~%z = sdiv i8 %y, 3~%w = or i8 %z, 1~%v = zext i8 %w to i9~%u = sext i9 %v to i32~%t = icmp ne i32 %u, 1 => read
+%y = call i8 @llvm.smax.i8(i8 1, i8 %x)~%z = tail call i8 @llvm.umin.i8(i8 1, i8 %y)~notail call void @llvm.assume(i1 false) => read
+define void @e() { => read
 define i8 @e(i8 %x) nounwind #0 !dbg !2 { => read"#;
 
 // The whole text of a row.
