@@ -1,0 +1,3 @@
+pub mod DifferentLaws
+mod NameTableLaws
+mod RepeatLaws
