@@ -1,5 +1,4 @@
-ghost use Rattle.std.specs.Prelude.{◌≡◌, ◌≤◌, ◌-◌, ◌^◌};
-ghost use Rattle.ll_tree.specs.Formed.{IsFormedOp};
+ghost use Rattle.std.specs.Prelude.{◌≡◌, ◌-◌, ◌^◌, ◌==◌};
 ghost use Rattle.ll_rules.specs.Arithmetic as arithmetic;
 
 use ll_tree::{BinKind, Op, Operand};
@@ -44,7 +43,6 @@ fn is_constant(operand: &Operand) -> bool
 
 /// Whether an operation doesn't divide by 0, by `poison` or, where it is signed, by -1.
 pub fn has_divisor(op: &Op) -> bool
-    requires { IsFormedOp op.now }
     ensures { result ≡ arithmetic.has_divisor op.now }
 {
     match op {
@@ -59,7 +57,6 @@ pub fn has_divisor(op: &Op) -> bool
 }
 
 fn is_divisor(kind: BinKind, width: u32, right: &Operand) -> bool
-    requires { width ≤ 32 }
     ensures { result ≡ arithmetic.is_divisor kind width right.now }
 {
     match kind {
@@ -80,20 +77,18 @@ fn is_unsigned_divisor(right: &Operand) -> bool
 }
 
 fn is_signed_divisor(width: u32, right: &Operand) -> bool
-    requires { width ≤ 32 }
     ensures { result ≡ arithmetic.is_signed_divisor width right.now }
 {
     match right {
         Operand::Name(_) => true,
-        Operand::Const(number) => *number != 0 && u64::from(*number) != minus_one(width),
+        Operand::Const(number) => *number != 0 && !is_minus_one(width, *number),
         Operand::Poison => false,
     }
 }
 
-// -1 in so many bits.
-fn minus_one(width: u32) -> u64
-    requires { width ≤ 32 }
-    ensures { result ≡ 2 ^ width - 1 }
+// Whether the number is -1 in so many bits.
+fn is_minus_one(width: u32, number: u32) -> bool
+    ensures { result ≡ (number == 2 ^ width - 1) }
 {
-    (1 << width) - 1
+    width <= 32 && u64::from(number) == (1 << width) - 1
 }

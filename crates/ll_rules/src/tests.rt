@@ -1,5 +1,3 @@
-ghost use Rattle.ll_tree.specs.Formed.{IsFormedOp};
-
 use crate::{Limit, TooMany, first_excess, has_divisor, is_linear};
 use ll_tree::{BinKind, Block, Case, End, Flags, Func, Op, Operand, Ret};
 use std::alloc::Global;
@@ -102,9 +100,7 @@ fn products_and_shifts_are_linear(rt: HostRuntime) -> Result<(), Fail> {
     Ok(())
 }
 
-fn divided(kind: BinKind) -> Op
-    ensures { IsFormedOp result }
-{
+fn divided(kind: BinKind) -> Op {
     Op::Bin {
         kind,
         flags: NONE,
