@@ -1,0 +1,7 @@
+use Rattle.std.proofs.Common.{◌≡◌, ◌++◌, take}
+use Rattle.std.specs.List.{flat_map}
+use Rattle.ll_rules.specs.Items.{named, result_width}
+use Rattle.ll_items.proofs.values.push_results.Given as goal
+
+abbrev pub invariant-loop-instr : goal.invariant-loop-instr
+invariant-loop-instr l = l.list ≡ l.initial.list ++ flat_map (λ instr. named instr.name (result_width instr.op)) (take l.instr-index l.body)
