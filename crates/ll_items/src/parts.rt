@@ -78,11 +78,18 @@ pub fn push_parts<'a>(parts: &mut Parts<'a>, item: ItemRef<'a>) -> Result<(), No
     }
 }
 
-fn push_entries<'a>(parts: &mut Parts<'a>, width: u32, entries: &'a [PhiEntry]) -> Result<(), NoMemory>
+fn push_entries<'a>(
+    parts: &mut Parts<'a>,
+    width: u32,
+    entries: &'a [PhiEntry],
+) -> Result<(), NoMemory>
     ensures { OnOk result (parts.new ≡ parts.old ++ flat_map (λ entry. items.Use entry.value width ∷ items.Goal entry.from ∷ []) entries.now) }
 {
     for entry in entries {
-        parts.push(PartRef::Use { operand: &entry.value, width })?;
+        parts.push(PartRef::Use {
+            operand: &entry.value,
+            width,
+        })?;
         parts.push(PartRef::Goal { label: &entry.from })?;
     }
     Ok(())
@@ -92,10 +99,25 @@ fn push_op<'a>(parts: &mut Parts<'a>, op: &'a Op) -> Result<(), NoMemory>
     ensures { OnOk result (parts.new ≡ parts.old ++ items.op_parts op.now) }
 {
     match op {
-        Op::Bin { width, left, right, .. } => push_pair(parts, *width, left, right),
-        Op::Cmp { width, left, right, .. } => push_pair(parts, *width, left, right),
+        Op::Bin {
+            width,
+            left,
+            right,
+            ..
+        } => push_pair(parts, *width, left, right),
+        Op::Cmp {
+            width,
+            left,
+            right,
+            ..
+        } => push_pair(parts, *width, left, right),
         Op::Cast { from, arg, .. } => push_use(parts, *from, arg),
-        Op::Select { width, cond, yes, no } => {
+        Op::Select {
+            width,
+            cond,
+            yes,
+            no,
+        } => {
             push_use(parts, 1, cond)?;
             push_pair(parts, *width, yes, no)
         }
@@ -116,7 +138,12 @@ fn push_end<'a>(parts: &mut Parts<'a>, end: &'a End) -> Result<(), NoMemory>
             push_goal(parts, yes)?;
             push_goal(parts, no)
         }
-        End::Switch { width, value, default, cases } => {
+        End::Switch {
+            width,
+            value,
+            default,
+            cases,
+        } => {
             push_use(parts, *width, value)?;
             push_goal(parts, default)?;
             push_cases(parts, cases.items())
@@ -133,7 +160,12 @@ fn push_cases<'a>(parts: &mut Parts<'a>, cases: &'a [Case]) -> Result<(), NoMemo
     Ok(())
 }
 
-fn push_pair<'a>(parts: &mut Parts<'a>, width: u32, left: &'a Operand, right: &'a Operand) -> Result<(), NoMemory>
+fn push_pair<'a>(
+    parts: &mut Parts<'a>,
+    width: u32,
+    left: &'a Operand,
+    right: &'a Operand,
+) -> Result<(), NoMemory>
     ensures { OnOk result (parts.new ≡ parts.old ++ items.Use left.now width ∷ items.Use right.now width ∷ []) }
 {
     push_use(parts, width, left)?;

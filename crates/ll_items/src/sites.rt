@@ -108,7 +108,12 @@ fn push_phis<'a>(list: &mut Sites<'a>, block: u32, phis: &'a [Phi]) -> Result<()
     Ok(())
 }
 
-fn push_body<'a>(list: &mut Sites<'a>, block: u32, first: u32, body: &'a [Instr]) -> Result<(), NoMemory>
+fn push_body<'a>(
+    list: &mut Sites<'a>,
+    block: u32,
+    first: u32,
+    body: &'a [Instr],
+) -> Result<(), NoMemory>
     requires { first + length body.now < 2 ^ 32 }
     ensures { OnOk result (list.new ≡ list.old ++ sites_from block first (map items.OfInstr body.now)) }
 {
