@@ -1,0 +1,4 @@
+mod CaseLaws
+mod FirstLaws
+mod PartLaws
+mod ValueLaws

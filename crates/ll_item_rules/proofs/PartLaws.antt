@@ -1,0 +1,1 @@
+-- Parts taken one after the other.
