@@ -25,7 +25,11 @@ impl<'t, 'a> SiteTest for Lacking<'t, 'a> {
 }
 
 /// The first name of these operands and labels that is no value's or no block's.
-pub fn lacking_name<'a>(values: &ValueTable, labels: &NameTable, parts: &[PartRef<'a>]) -> Option<&'a Name>
+pub fn lacking_name<'a>(
+    values: &ValueTable,
+    labels: &NameTable,
+    parts: &[PartRef<'a>],
+) -> Option<&'a Name>
     ensures { option_copied result ≡ spec.lacking_name values.now labels.now (map part_of parts.now) }
 {
     for part in parts {

@@ -14,7 +14,7 @@ pub use constants::{BadDivisor, NotLinear};
 pub use lacking::{Lacking, lacking_name};
 pub use value_table::ValueTable;
 pub use walk::{SiteTest, first_site};
-pub use widths::{TypeDiffers};
+pub use widths::TypeDiffers;
 
 #[cfg(test)]
 mod tests;

@@ -22,7 +22,11 @@ pub trait SiteTest {
 }
 
 /// The first item that breaks a rule, `None` exactly where none does.
-pub fn first_site<'a, T: SiteTest>(alloc: Global, sites: &Sites<'a>, test: &T) -> Result<Option<SiteRef<'a>>, NoMemory>
+pub fn first_site<'a, T: SiteTest>(
+    alloc: Global,
+    sites: &Sites<'a>,
+    test: &T,
+) -> Result<Option<SiteRef<'a>>, NoMemory>
     ensures { IfOk result (λ found. MatchOption found (NoneFails (T.fails test.now) sites.now)
         (λ site. IsFirst (T.fails test.now) sites.now (site_of site))) }
 {

@@ -1,0 +1,10 @@
+use Rattle.std.proofs.Common.{◌≡◌, ◌++◌, drop, map}
+use Rattle.ll_items.specs.Parts.{part_of}
+use Rattle.ll_links.specs.Links as spec
+use Rattle.ll_links.proofs.links.push_links.Given as goal
+
+abbrev pub invariant-loop-part : goal.invariant-loop-part
+invariant-loop-part l = record {
+  closed : l.lists.0 ≡ l.initial.lists.0;
+  open_list : l.lists.1 ++ spec.known_links l.values l.labels (map part_of (drop l.part-index l.parts)) ≡ l.initial.lists.1 ++ spec.known_links l.values l.labels (map part_of l.parts);
+}
