@@ -11,6 +11,7 @@ use name_table::NameTable;
 use wx_base::Name;
 
 /// The rule that each operand names a value and each label a block.
+#[derive(Clone, Copy)]
 pub struct Lacking<'t, 'a> {
     pub values: &'t ValueTable<'a>,
     pub labels: &'t NameTable<'a>,

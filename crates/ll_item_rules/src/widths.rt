@@ -10,6 +10,7 @@ use ll_tree::{Case, CastKind, End, Op, Operand, Ret};
 
 /// The rule that each value has the width that is written at its use, a returned value that of the
 /// function's type, a case that of its switch, and that a conversion widens or narrows as it says.
+#[derive(Clone, Copy)]
 pub struct TypeDiffers<'t, 'a> {
     pub values: &'t ValueTable<'a>,
     pub ret: Ret,

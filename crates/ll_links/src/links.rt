@@ -17,7 +17,12 @@ use wx_base::{Name, NoMemory};
 
 /// The numbers of what each item names, a list for each item in written order. Each name is a value's or a
 /// block's, so none is missing.
-pub fn resolve(alloc: Global, sites: &Sites, values: &ValueTable, labels: &NameTable) -> Result<FlatLists<Link>, NoMemory>
+pub fn resolve(
+    alloc: Global,
+    sites: &Sites,
+    values: &ValueTable,
+    labels: &NameTable,
+) -> Result<FlatLists<Link>, NoMemory>
     requires few_values { length values.now < 2 ^ 32 }
     requires few_blocks { length labels.now < 2 ^ 32 }
     requires named { NoneFails (λ site. is_some (lacking_name values.now labels.now (parts_of site.what))) sites.now }
@@ -36,7 +41,12 @@ pub fn resolve(alloc: Global, sites: &Sites, values: &ValueTable, labels: &NameT
     Ok(lists)
 }
 
-fn push_links(lists: &mut FlatLists<Link>, values: &ValueTable, labels: &NameTable, parts: &[PartRef]) -> Result<(), NoMemory>
+fn push_links(
+    lists: &mut FlatLists<Link>,
+    values: &ValueTable,
+    labels: &NameTable,
+    parts: &[PartRef],
+) -> Result<(), NoMemory>
     requires few_values { length values.now < 2 ^ 32 }
     requires few_blocks { length labels.now < 2 ^ 32 }
     ensures { OnOk result (lists.new ≡ (lists.old.0, lists.old.1 ++ spec.known_links values.now labels.now (map part_of parts.now))) }

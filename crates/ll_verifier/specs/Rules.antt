@@ -1,0 +1,79 @@
+-- The rules for the items of a function, in order, and what breaks them.
+use Rattle.std.specs.Prelude.{◌≡◌, ℕ, List, [], ◌∷◌, map, Bool, Option, Some, None, is_some, slice_index_or}
+use Rattle.ll_tree.specs.declared.func.Func.{Func}
+use Rattle.ll_rules.specs.Items.{labels_of, names_of, values_of, parts_of}
+use Rattle.ll_rules.specs.Limits.{KeepsLimits, IsFirstExcess}
+use Rattle.name_table.specs.Names.{AreDifferent, IsFirstRepeat}
+use Rattle.ll_items.specs.Sites.{Site, sites_of}
+use Rattle.ll_item_rules.specs.First.{NoneFails, IsFirst}
+use Rattle.ll_item_rules.specs.Lacking.{lacking_name}
+use Rattle.ll_item_rules.specs.Widths.{type_differs}
+use Rattle.ll_item_rules.specs.Cases.{repeated_case}
+use Rattle.ll_item_rules.specs.Constants.{is_not_linear, has_bad_divisor}
+use Rattle.ll_links.specs.declared.link.Link.{Link}
+use Rattle.ll_links.specs.Links.{AreWhole}
+use Rattle.ll_verifier.specs.declared.fault.Spot.{Spot}
+use Rattle.ll_verifier.specs.declared.fault.RuleFault.{RuleFault}
+use Rattle.ll_verifier.specs.declared.fault.RuleFault.TheVariants as fault
+
+-- an item's place, by the label of its block
+abbrev pub spot_of : Func → Site → Spot
+spot_of func site = record { block = slice_index_or (labels_of func) site.block []; item = site.item }
+
+-- the first name of an item that is no value's or no block's
+abbrev pub missing_name : Func → Site → Option (List ℕ)
+missing_name func site = lacking_name (values_of func) (labels_of func) (parts_of site.what)
+
+abbrev pub lacks_name : Func → Site → Bool
+lacks_name func site = is_some (missing_name func site)
+
+abbrev pub differs : Func → Site → Bool
+differs func site = type_differs (values_of func) func.ret site.what
+
+abbrev pub repeats_case : Site → Bool
+repeats_case site = is_some (repeated_case site.what)
+
+abbrev pub HasDifferentNames : Func → Type 0
+HasDifferentNames func = AreDifferent (names_of func)
+
+-- the name that is given twice, of several the one whose second place comes first
+abbrev pub IsGivenTwice : Func → List ℕ → Type 0
+IsGivenTwice func name = (at : ℕ) × IsFirstRepeat (names_of func) at × (name ≡ slice_index_or (names_of func) at [])
+
+-- what is kept before each rule is asked
+
+abbrev pub HasNames : Func → Type 0
+HasNames func = KeepsLimits func × HasDifferentNames func
+
+abbrev pub IsNamed : Func → Type 0
+IsNamed func = HasNames func × NoneFails (lacks_name func) (sites_of func)
+
+abbrev pub IsTyped : Func → Type 0
+IsTyped func = IsNamed func × NoneFails (differs func) (sites_of func)
+
+abbrev pub HasCases : Func → Type 0
+HasCases func = IsTyped func × NoneFails repeats_case (sites_of func)
+
+abbrev pub IsLinear : Func → Type 0
+IsLinear func = HasCases func × NoneFails (λ site. is_not_linear site.what) (sites_of func)
+
+abbrev pub Divides : Func → Type 0
+Divides func = IsLinear func × NoneFails (λ site. has_bad_divisor site.what) (sites_of func)
+
+-- the first item that breaks a rule stands there
+abbrev pub StandsFirst : Func → (Site → Bool) → Spot → Type 0
+StandsFirst func breaks at = (site : Site) × IsFirst breaks (sites_of func) site × (at ≡ spot_of func site)
+
+-- the fault is the first
+abbrev pub Breaks : Func → RuleFault → Type 0
+Breaks func (fault.TooMany excess) = IsFirstExcess func excess
+Breaks func (fault.NameTwice name) = KeepsLimits func × IsGivenTwice func name
+Breaks func (fault.NoSuchName name at) = HasNames func × ((site : Site) × IsFirst (lacks_name func) (sites_of func) site × (at ≡ spot_of func site) × (missing_name func site ≡ Some name))
+Breaks func (fault.TypeDiffers at) = IsNamed func × StandsFirst func (differs func) at
+Breaks func (fault.DuplicateCase at value) = IsTyped func × ((site : Site) × IsFirst repeats_case (sites_of func) site × (at ≡ spot_of func site) × (repeated_case site.what ≡ Some value))
+Breaks func (fault.NotLinear at) = HasCases func × StandsFirst func (λ site. is_not_linear site.what) at
+Breaks func (fault.BadDivisor at) = IsLinear func × StandsFirst func (λ site. has_bad_divisor site.what) at
+
+-- all are kept, and these are the numbers of what each item names
+abbrev pub IsNumbered : Func → List (List Link) × List Link → Type 0
+IsNumbered func links = Divides func × AreWhole (values_of func) (labels_of func) (sites_of func) links.0

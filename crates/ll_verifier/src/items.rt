@@ -1,0 +1,135 @@
+ghost use Rattle.std.specs.Prelude.{◌≡◌, IfOk, MatchOption, MatchResult, map, is_some};
+ghost use Rattle.ll_rules.specs.Limits.{KeepsLimits};
+ghost use Rattle.ll_items.specs.Sites.{sites_of};
+ghost use Rattle.ll_item_rules.specs.First.{NoneFails};
+ghost use Rattle.ll_item_rules.specs.Constants.{is_not_linear, has_bad_divisor};
+ghost use Rattle.ll_verifier.specs.Rules as rules;
+ghost use Rattle.ll_verifier.specs.Tables.{AreTables};
+
+use crate::RuleFault;
+use crate::spot::{first_spot, spot};
+use crate::tables::{Tables, tables_of};
+use flat_lists::FlatLists;
+use ll_item_rules::{
+    BadDivisor, Lacking, NotLinear, RepeatedCase, TypeDiffers, first_site, lacking_name,
+    repeated_case,
+};
+use ll_items::{Parts, list_names, push_parts};
+use ll_links::{Link, resolve};
+use ll_rules::first_excess;
+use ll_tree::Func;
+use name_table::first_repeat;
+use std::alloc::Global;
+use wx_base::{Name, NoMemory};
+
+/// The numbers of what each item names, where a function keeps the limits and the rules for names, widths,
+/// cases and constants; else the first of these rules that it breaks.
+pub fn check_items(alloc: Global, func: &Func) -> Result<Result<FlatLists<Link>, RuleFault>, NoMemory>
+    ensures { IfOk result (λ answer. MatchResult answer (rules.IsNumbered func.now) (rules.Breaks func.now)) }
+{
+    match first_excess(func) {
+        Some(excess) => Ok(Err(RuleFault::TooMany(excess))),
+        None => check_names(alloc, func),
+    }
+}
+
+fn check_names(alloc: Global, func: &Func) -> Result<Result<FlatLists<Link>, RuleFault>, NoMemory>
+    requires { KeepsLimits func.now }
+    ensures { IfOk result (λ answer. MatchResult answer (rules.IsNumbered func.now) (rules.Breaks func.now)) }
+{
+    match repeated_name(alloc, func)? {
+        Some(name) => Ok(Err(RuleFault::NameTwice { name })),
+        None => {
+            let tables = tables_of(alloc, func)?;
+            check_sites(alloc, func, &tables)
+        }
+    }
+}
+
+// The first name that is given twice.
+fn repeated_name(alloc: Global, func: &Func) -> Result<Option<Name>, NoMemory>
+    ensures { IfOk result (λ found. MatchOption found (rules.HasDifferentNames func.now) (rules.IsGivenTwice func.now)) }
+{
+    let names = list_names(alloc, func)?;
+    let items = names.items();
+    match first_repeat(alloc, items)? {
+        Some(at) => Ok(Some(Name::new(alloc, items[at])?)),
+        None => Ok(None),
+    }
+}
+
+fn check_sites(alloc: Global, func: &Func, tables: &Tables) -> Result<Result<FlatLists<Link>, RuleFault>, NoMemory>
+    requires names { rules.HasNames func.now }
+    requires tables { AreTables func.now tables.now }
+    ensures { IfOk result (λ answer. MatchResult answer (rules.IsNumbered func.now) (rules.Breaks func.now)) }
+{
+    if let Some(fault) = missing_name(alloc, func, tables)? {
+        return Ok(Err(fault));
+    }
+    if let Some(fault) = other_type(alloc, func, tables)? {
+        return Ok(Err(fault));
+    }
+    if let Some(fault) = repeated_number(alloc, func, tables)? {
+        return Ok(Err(fault));
+    }
+    if let Some(at) = first_spot(alloc, func, &tables.sites, &NotLinear)? {
+        return Ok(Err(RuleFault::NotLinear { at }));
+    }
+    if let Some(at) = first_spot(alloc, func, &tables.sites, &BadDivisor)? {
+        return Ok(Err(RuleFault::BadDivisor { at }));
+    }
+    let links = resolve(alloc, &tables.sites, &tables.values, &tables.labels)?;
+    Ok(Ok(links))
+}
+
+fn missing_name(alloc: Global, func: &Func, tables: &Tables) -> Result<Option<RuleFault>, NoMemory>
+    requires names { rules.HasNames func.now }
+    requires tables { AreTables func.now tables.now }
+    ensures { IfOk result (λ found. MatchOption found (NoneFails (rules.lacks_name func.now) (sites_of func.now)) (rules.Breaks func.now)) }
+{
+    let test = Lacking {
+        values: &tables.values,
+        labels: &tables.labels,
+    };
+    let Some(site) = first_site(alloc, &tables.sites, &test)? else {
+        return Ok(None);
+    };
+    let mut parts = Parts::new(alloc);
+    push_parts(&mut parts, site.what)?;
+    let Some(name) = lacking_name(&tables.values, &tables.labels, parts.items()) else {
+        return Ok(None);
+    };
+    let name = Name::new(alloc, name.bytes())?;
+    let at = spot(alloc, func, site)?;
+    Ok(Some(RuleFault::NoSuchName { name, at }))
+}
+
+fn other_type(alloc: Global, func: &Func, tables: &Tables) -> Result<Option<RuleFault>, NoMemory>
+    requires named { rules.IsNamed func.now }
+    requires tables { AreTables func.now tables.now }
+    ensures { IfOk result (λ found. MatchOption found (NoneFails (rules.differs func.now) (sites_of func.now)) (rules.Breaks func.now)) }
+{
+    let test = TypeDiffers {
+        values: &tables.values,
+        ret: func.ret,
+    };
+    match first_spot(alloc, func, &tables.sites, &test)? {
+        Some(at) => Ok(Some(RuleFault::TypeDiffers { at })),
+        None => Ok(None),
+    }
+}
+
+fn repeated_number(alloc: Global, func: &Func, tables: &Tables) -> Result<Option<RuleFault>, NoMemory>
+    requires typed { rules.IsTyped func.now }
+    requires tables { AreTables func.now tables.now }
+    ensures { IfOk result (λ found. MatchOption found (NoneFails rules.repeats_case (sites_of func.now)) (rules.Breaks func.now)) }
+{
+    let Some(site) = first_site(alloc, &tables.sites, &RepeatedCase)? else {
+        return Ok(None);
+    };
+    let Some(value) = repeated_case(site.what) else {
+        return Ok(None);
+    };
+    let at = spot(alloc, func, site)?;
+    Ok(Some(RuleFault::DuplicateCase { at, value }))
+}
