@@ -1,0 +1,9 @@
+//! Whether the entries of a phi are those of the edges that lead to its block.
+#![tactic(auto)]
+
+mod phis;
+
+pub use phis::PhiEntriesDiffer;
+
+#[cfg(test)]
+mod tests;
