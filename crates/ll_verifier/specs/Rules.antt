@@ -10,6 +10,7 @@ use Rattle.ll_item_rules.specs.Lacking.{lacking_name}
 use Rattle.ll_item_rules.specs.Widths.{type_differs}
 use Rattle.ll_item_rules.specs.Cases.{repeated_case}
 use Rattle.ll_item_rules.specs.Constants.{is_not_linear, has_bad_divisor}
+use Rattle.ll_phi_rules.specs.Phis.{differ_at}
 use Rattle.ll_links.specs.declared.link.Link.{Link}
 use Rattle.ll_links.specs.Links.{AreWhole}
 use Rattle.ll_verifier.specs.declared.fault.Spot.{Spot}
@@ -60,6 +61,9 @@ IsLinear func = HasCases func × NoneFails (λ site. is_not_linear site.what) (s
 abbrev pub Divides : Func → Type 0
 Divides func = IsLinear func × NoneFails (λ site. has_bad_divisor site.what) (sites_of func)
 
+abbrev pub HasEntries : Func → Type 0
+HasEntries func = Divides func × NoneFails (differ_at func.blocks) (sites_of func)
+
 -- the first item that breaks a rule stands there
 abbrev pub StandsFirst : Func → (Site → Bool) → Spot → Type 0
 StandsFirst func breaks at = (site : Site) × IsFirst breaks (sites_of func) site × (at ≡ spot_of func site)
@@ -73,7 +77,8 @@ Breaks func (fault.TypeDiffers at) = IsNamed func × StandsFirst func (differs f
 Breaks func (fault.DuplicateCase at value) = IsTyped func × ((site : Site) × IsFirst repeats_case (sites_of func) site × (at ≡ spot_of func site) × (repeated_case site.what ≡ Some value))
 Breaks func (fault.NotLinear at) = HasCases func × StandsFirst func (λ site. is_not_linear site.what) at
 Breaks func (fault.BadDivisor at) = IsLinear func × StandsFirst func (λ site. has_bad_divisor site.what) at
+Breaks func (fault.PhiEntries at) = Divides func × StandsFirst func (differ_at func.blocks) at
 
 -- all are kept, and these are the numbers of what each item names
 abbrev pub IsNumbered : Func → List (List Link) × List Link → Type 0
-IsNumbered func links = Divides func × AreWhole (values_of func) (labels_of func) (sites_of func) links.0
+IsNumbered func links = HasEntries func × AreWhole (values_of func) (labels_of func) (sites_of func) links.0

@@ -28,4 +28,7 @@ pub enum RuleFault {
     NotLinear { at: Spot },
     /// A division by 0, by `poison` or, where it is signed, by -1.
     BadDivisor { at: Spot },
+    /// A phi has another count of entries for a block than the block has targets that are the phi's block,
+    /// or two entries for it hold different operands.
+    PhiEntries { at: Spot },
 }

@@ -16,6 +16,7 @@ use ll_item_rules::{
 };
 use ll_items::{Parts, list_names, push_parts};
 use ll_links::{Link, resolve};
+use ll_phi_rules::PhiEntriesDiffer;
 use ll_rules::first_excess;
 use ll_tree::Func;
 use name_table::first_repeat;
@@ -23,8 +24,11 @@ use std::alloc::Global;
 use wx_base::{Name, NoMemory};
 
 /// The numbers of what each item names, where a function keeps the limits and the rules for names, widths,
-/// cases and constants; else the first of these rules that it breaks.
-pub fn check_items(alloc: Global, func: &Func) -> Result<Result<FlatLists<Link>, RuleFault>, NoMemory>
+/// cases, constants and phis; else the first of these rules that it breaks.
+pub fn check_items(
+    alloc: Global,
+    func: &Func,
+) -> Result<Result<FlatLists<Link>, RuleFault>, NoMemory>
     ensures { IfOk result (λ answer. MatchResult answer (rules.IsNumbered func.now) (rules.Breaks func.now)) }
 {
     match first_excess(func) {
@@ -58,7 +62,11 @@ fn repeated_name(alloc: Global, func: &Func) -> Result<Option<Name>, NoMemory>
     }
 }
 
-fn check_sites(alloc: Global, func: &Func, tables: &Tables) -> Result<Result<FlatLists<Link>, RuleFault>, NoMemory>
+fn check_sites(
+    alloc: Global,
+    func: &Func,
+    tables: &Tables,
+) -> Result<Result<FlatLists<Link>, RuleFault>, NoMemory>
     requires names { rules.HasNames func.now }
     requires tables { AreTables func.now tables.now }
     ensures { IfOk result (λ answer. MatchResult answer (rules.IsNumbered func.now) (rules.Breaks func.now)) }
@@ -77,6 +85,12 @@ fn check_sites(alloc: Global, func: &Func, tables: &Tables) -> Result<Result<Fla
     }
     if let Some(at) = first_spot(alloc, func, &tables.sites, &BadDivisor)? {
         return Ok(Err(RuleFault::BadDivisor { at }));
+    }
+    let phis = PhiEntriesDiffer {
+        blocks: func.blocks.items(),
+    };
+    if let Some(at) = first_spot(alloc, func, &tables.sites, &phis)? {
+        return Ok(Err(RuleFault::PhiEntries { at }));
     }
     let links = resolve(alloc, &tables.sites, &tables.values, &tables.labels)?;
     Ok(Ok(links))
@@ -119,7 +133,11 @@ fn other_type(alloc: Global, func: &Func, tables: &Tables) -> Result<Option<Rule
     }
 }
 
-fn repeated_number(alloc: Global, func: &Func, tables: &Tables) -> Result<Option<RuleFault>, NoMemory>
+fn repeated_number(
+    alloc: Global,
+    func: &Func,
+    tables: &Tables,
+) -> Result<Option<RuleFault>, NoMemory>
     requires typed { rules.IsTyped func.now }
     requires tables { AreTables func.now tables.now }
     ensures { IfOk result (λ found. MatchOption found (NoneFails rules.repeats_case (sites_of func.now)) (rules.Breaks func.now)) }

@@ -11,7 +11,12 @@ use std::alloc::Global;
 use wx_base::{Name, NoMemory};
 
 // Where the first item stands that breaks a rule.
-pub fn first_spot<T: SiteTest>(alloc: Global, func: &Func, sites: &Sites, test: &T) -> Result<Option<Spot>, NoMemory>
+pub fn first_spot<T: SiteTest>(
+    alloc: Global,
+    func: &Func,
+    sites: &Sites,
+    test: &T,
+) -> Result<Option<Spot>, NoMemory>
     requires { sites.now ≡ sites_of func.now }
     ensures { IfOk result (λ found. MatchOption found (NoneFails (T.fails test.now) (sites_of func.now))
         (StandsFirst func.now (T.fails test.now))) }
