@@ -1,5 +1,5 @@
 -- The kept order of a graph, and cycles.
-use Rattle.std.specs.Prelude.{◌<◌, ◌≤◌, ℕ, List, [], ◌∷◌, length, take, All, Contains, slice_index}
+use Rattle.std.specs.Prelude.{◌≡◌, ◌<◌, ◌≤◌, ℕ, List, [], ◌∷◌, length, take, All, Contains, slice_index}
 use Rattle.flow_graph.specs.declared.edge.Edge.{Edge}
 use Rattle.flow_graph.specs.Paths.{HasEdge}
 use Rattle.block_order.specs.declared.order.Ordered.{Ordered}
@@ -48,3 +48,8 @@ Orders blocks edges (ordered.Cycle cycle) = IsCycle edges cycle
 abbrev pub LeavesNoCycle : List Edge → Ordered → Type 0
 LeavesNoCycle edges (ordered.Order order) = (cycle : List ℕ) → IsClosed edges cycle → ⊥
 LeavesNoCycle edges (ordered.Cycle cycle) = Unit {0}
+
+-- an order has so many blocks
+abbrev pub HasEach : ℕ → Ordered → Type 0
+HasEach blocks (ordered.Order order) = length order ≡ blocks
+HasEach blocks (ordered.Cycle cycle) = Unit {0}

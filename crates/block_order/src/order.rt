@@ -1,5 +1,5 @@
 ghost use Rattle.std.specs.Prelude.{◌<◌, All, IfOk};
-ghost use Rattle.block_order.specs.Order.{Orders, LeavesNoCycle};
+ghost use Rattle.block_order.specs.Order.{Orders, HasEach, LeavesNoCycle};
 
 use crate::cycle::cycle_from;
 use crate::ready::{first_false, next_ready};
@@ -23,6 +23,7 @@ pub enum Ordered {
 pub fn kept_order(alloc: Global, blocks: u32, edges: &[Edge]) -> Result<Ordered, NoMemory>
     requires { All (λ edge. (edge.from < blocks) × (edge.to < blocks)) edges.now }
     ensures orders { IfOk result (Orders blocks edges.now) }
+    ensures size { IfOk result (HasEach blocks) }
     ensures acyclic { IfOk result (LeavesNoCycle edges.now) }
 {
     let mut taken = vec![in alloc; false; blocks as usize]?;

@@ -1,2 +1,3 @@
 pub mod BackwardLaws
 pub mod MarkingLaws
+pub mod SortingLaws

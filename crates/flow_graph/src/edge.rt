@@ -2,7 +2,7 @@ use std::alloc::Global;
 use wx_base::{Copied, NoMemory, Sequence};
 
 /// An edge from one block to another.
-#[derive(Clone, Copy, Debug, PartialEq, Eq)]
+#[derive(Clone, Copy, Debug, PartialEq, Eq, PartialOrd, Ord)]
 pub struct Edge {
     pub from: u32,
     pub to: u32,

@@ -8,10 +8,12 @@
 mod edge;
 mod path;
 mod reach;
+mod sorting;
 
 pub use edge::{Edge, Edges};
 pub use path::path_to;
 pub use reach::mark_reached;
+pub use sorting::sorted;
 
 #[cfg(test)]
 mod tests;

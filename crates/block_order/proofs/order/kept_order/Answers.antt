@@ -1,7 +1,7 @@
 use Rattle.std.proofs.Common.{◌≡◌, ◌<◌, ℕ, Bool, true, false, List, length, get_or, subst, refl, arith, length-set, length-take, length-append, length-drop}
 use Rattle.block_order.specs.Marks.{IsFirstFree}
 use Rattle.block_order.proofs.AcyclicLaws.{no_cycle}
-use Rattle.block_order.proofs.TakingLaws.{left_falls, taken_first, taken_more, taken_all}
+use Rattle.block_order.proofs.TakingLaws.{left_falls, taken_first, taken_more, taken_all, each_taken}
 use Rattle.block_order.proofs.order.kept_order.Goals as goal
 
 pub loop-block-init : goal.loop-block-init
@@ -30,6 +30,10 @@ loop-block-smaller c =
 pub returns-in-None-clause-orders : goal.returns-in-None-clause-orders
 returns-in-None-clause-orders c =
     rw c.from_vec.ensures (taken_all c.args.blocks c.args.edges.now c.loop-block.taken.items c.loop-block.order.items c.loop-block.invariant.taken (subst (λ (marks : List Bool). (block : ℕ) → block < length marks → get_or marks block false ≡ true) c.deref-2.ensures.value c.in-None.ensures))
+
+pub returns-in-None-clause-size : goal.returns-in-None-clause-size
+returns-in-None-clause-size c =
+    rw c.from_vec.ensures (each_taken c.args.blocks c.args.edges.now c.loop-block.taken.items c.loop-block.order.items c.loop-block.invariant.taken (subst (λ (marks : List Bool). (block : ℕ) → block < length marks → get_or marks block false ≡ true) c.deref-2.ensures.value c.in-None.ensures))
 
 pub returns-in-None-clause-acyclic : goal.returns-in-None-clause-acyclic
 returns-in-None-clause-acyclic c =
