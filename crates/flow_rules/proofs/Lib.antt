@@ -1,0 +1,4 @@
+pub mod OrderLaws
+pub mod PathLaws
+pub mod RowLaws
+pub mod StoredLaws
