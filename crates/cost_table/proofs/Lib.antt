@@ -1,3 +1,5 @@
 pub mod DigitLaws
+pub mod KeptLaws
 pub mod LineLaws
 pub mod NameLaws
+pub mod TableLaws

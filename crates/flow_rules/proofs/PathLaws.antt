@@ -1,11 +1,11 @@
 -- Paths by positions and by places.
-use Rattle.std.proofs.Common.{◌≡◌, ◌≢◌, ◌<◌, ◌⊎◌, inl, inr, ⊎_elim, ℕ, Bool, true, false, IsTrue, List, [], ◌∷◌, length, get_or, map, refl, sym, ◌∙◌, ap, arith, subst}
+use Rattle.std.proofs.Common.{◌≡◌, ◌<◌, ◌⊎◌, inl, inr, ⊎_elim, ℕ, List, [], ◌∷◌, length, get_or, map, refl, sym, ◌∙◌, ap, arith, subst}
 use Rattle.std.proofs.lemmas.List.Elements.{All-contains}
 use Rattle.std.proofs.lemmas.Bool.{true≢false, cases_eq, cases_Bool}
 use Rattle.flow_graph.specs.declared.edge.Edge.{Edge}
 use Rattle.flow_graph.specs.Paths.{HasEdge, Leads, IsPath}
 use Rattle.flow_rules.specs.declared.usage.Use.{Use}
-use Rattle.flow_rules.specs.Paths.{GoesOn, IsPathTo, IsReached, IsDefinedOn, IsOwn, IsDefined, LeavesOut}
+use Rattle.flow_rules.specs.Paths.{GoesOn, IsReached, IsDefinedOn, IsOwn, IsDefined, LeavesOut}
 use Rattle.flow_rules.specs.Flow.{Flow, IsFlow}
 use Rattle.flow_rules.specs.Stored.{ArePositions}
 use Rattle.flow_rules.proofs.OrderLaws.{EndsWithin, position_of}

@@ -1,5 +1,5 @@
 -- What a flow keeps, and what its marks say.
-use Rattle.std.proofs.Common.{◌≡◌, ◌≢◌, ◌<◌, ◌≤◌, ◌^◌, ◌⊎◌, ⊎_elim, ℕ, Bool, true, false, not, IsTrue, List, [], ◌∷◌, length, get_or, map, refl, sym, ◌∙◌, ap, arith, subst}
+use Rattle.std.proofs.Common.{◌≡◌, ◌<◌, ◌≤◌, ◌^◌, ⊎_elim, ℕ, Bool, true, false, not, IsTrue, List, [], ◌∷◌, length, get_or, map, refl, sym, ◌∙◌, arith, subst}
 use Rattle.std.specs.List.{All}
 use Rattle.std.proofs.lemmas.Bool.{true≢false, false≢true, cases_Bool}
 use Rattle.std.proofs.lemmas.List.Elements.{All-nil, All-cons}
@@ -9,7 +9,7 @@ use Rattle.flow_graph.specs.Sorted.{AreSorted, AreSame}
 use Rattle.block_order.specs.Order.{IsKeptOrder}
 use Rattle.flow_rules.specs.declared.flow.Flow.TheInside.{Inside}
 use Rattle.flow_rules.specs.declared.usage.Use.{Use}
-use Rattle.flow_rules.specs.Flow.{Flow, IsFlow, IsWithin}
+use Rattle.flow_rules.specs.Flow.{IsFlow, IsWithin}
 use Rattle.flow_rules.specs.Paths.{IsReached, IsOwn, IsDefined, LeavesOut}
 use Rattle.flow_rules.specs.Stored.{ArePositions, renumbered, AreRows, row_at, flow_of, IsSound}
 use Rattle.flow_rules.proofs.OrderLaws.{EndsWithin, position_of, edges_laid, flow_forward}

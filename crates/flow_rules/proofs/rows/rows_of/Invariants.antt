@@ -1,4 +1,3 @@
-use Rattle.std.proofs.Common.{◌≡◌, length}
 use Rattle.flow_rules.proofs.RowLaws.{FirstRows}
 use Rattle.flow_rules.proofs.rows.rows_of.Given as goal
 

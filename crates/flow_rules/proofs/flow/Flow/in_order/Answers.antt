@@ -1,4 +1,4 @@
-use Rattle.std.proofs.Common.{◌≡◌, ℕ, length, subst}
+use Rattle.std.proofs.Common.{ℕ, subst}
 use Rattle.flow_graph.specs.Paths.{IsForward}
 use Rattle.flow_rules.proofs.OrderLaws.{places_apart, flow_forward}
 use Rattle.flow_rules.proofs.StoredLaws.{sound_of, flow_in}

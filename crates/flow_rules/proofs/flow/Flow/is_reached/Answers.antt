@@ -1,4 +1,3 @@
-use Rattle.std.proofs.Common.{◌≡◌, ◌∙◌}
 use Rattle.flow_rules.proofs.StoredLaws.{reached_mark}
 use Rattle.flow_rules.proofs.flow.Flow.is_reached.Goals as goal
 
