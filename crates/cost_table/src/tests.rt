@@ -1,7 +1,8 @@
-ghost use Rattle.std.specs.Prelude.{◌≢◌, AllPairs, IfOk, length, ◌≡◌};
+ghost use Rattle.std.specs.Prelude.{◌≢◌, AllPairs, IfOk};
+ghost use Rattle.flow_graph.specs.Sorted.{AreSorted};
 
 use crate::{CostFault, Costs, read_costs};
-use flow_graph::{Edge, sorted};
+use flow_graph::{Edge, Edges, sorted};
 use std::alloc::Global;
 use std::test::Fail;
 use wx_base::{Name, NoMemory};
@@ -16,14 +17,21 @@ fn labels(alloc: Global) -> Result<[Name; 3], NoMemory>
     ])
 }
 
-// The table over `a`, `b` and `c d`, with edges from the first to the others.
-fn read(alloc: Global, text: &[u8]) -> Result<Costs, CostFault> {
-    let labels = labels(alloc)?;
+// Edges from the first block to the others.
+fn edges(alloc: Global) -> Result<Edges, NoMemory>
+    ensures { IfOk result AreSorted }
+{
     let mut edges = Vec::new(alloc);
     for to in [1, 2] {
         edges.push(Edge { from: 0, to })?;
     }
-    let edges = sorted(edges)?;
+    sorted(edges)
+}
+
+// The table over `a`, `b` and `c d`, with edges from the first to the others.
+fn read(alloc: Global, text: &[u8]) -> Result<Costs, CostFault> {
+    let labels = labels(alloc)?;
+    let edges = edges(alloc)?;
     if text.len() >= 1 << 31
         || edges
             .items()
