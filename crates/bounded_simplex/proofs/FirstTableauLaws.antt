@@ -34,6 +34,17 @@ first_apart system i j equation row is differ =
     (All-map (λ entry. entry.column ≢ length system.ranges + j) entry_of parts (All-weaker (λ part. part.var < length system.ranges) (λ part. part.var ≢ length system.ranges + j) (λ part h same. absurd (omega arith)) parts row.known))
     (λ same. differ (omega arith)))
 
+-- nor a column behind all others
+first_known : (system : System) (i column : ℕ) (equation : Equation) → IsRow (length system.ranges) (get_or system.rows i []) → IsOfRow system i equation → i < length system.rows
+    → length system.ranges + length system.rows ≤ column → taken equation column ≡ pos 0
+first_known system i column equation row is within beyond =
+    let parts = get_or system.rows i [] in
+    ap (λ entries. coefficient entries column) is.entries
+    ∙ coefficient_none (map entry_of parts ++ record { column = length system.ranges + i; coeff = negsuc 0 } ∷ []) column
+    (All-push (λ entry. entry.column ≢ column) (map entry_of parts) (record { column = length system.ranges + i; coeff = negsuc 0 })
+    (All-map (λ entry. entry.column ≢ column) entry_of parts (All-weaker (λ part. part.var < length system.ranges) (λ part. part.var ≢ column) (λ part h same. absurd (omega arith)) parts row.known))
+    (λ same. absurd (omega arith)))
+
 solved : (system : System) (rows : List Equation) → length rows ≡ length system.rows → ((k : ℕ) (d : Equation) → k < length rows → IsOfRow system k (get_or rows k d))
     → (row : ℕ) → row < length system.rows → (number : ℕ → ℤ) → AllHold rows number → number (length system.ranges + row) ≡ int_sum_by (λ part. part.coeff *ℤ number part.var) (get_or system.rows row [])
 solved system [] count each row within number all = absurd (omega arith)
@@ -52,6 +63,7 @@ first_tableau system rows formed count each = record {
       let row : IsRow (length system.ranges) (get_or system.rows i []) = formed.rows i [] (omega arith) in
       rw (of_j.basic) (first_apart system i j (get_or rows i d) row of_i differ);
   one_each = count;
+  known = λ k d column within beyond. first_known system k column (get_or rows k d) (formed.rows k [] (omega arith)) (each k d within) (omega arith) beyond;
   same_solutions = λ number. (
     λ solves k d within.
         let sum = first_sum system k (get_or rows k d) (each k d within) number in

@@ -6,3 +6,7 @@ pub mod InBoxLaws
 pub mod PivotLaws
 pub mod RefutationLaws
 pub mod TwoBoundLaws
+pub mod WithinLaws
+pub mod EachLaws
+pub mod PointLaws
+pub mod StepLaws

@@ -7,7 +7,8 @@ use Rattle.tableau_rows.specs.Equation.{unit}
 use Rattle.tableau_rows.specs.declared.equation.Equation.{Equation}
 use Rattle.tableau_rows.specs.Substitution.{taken, sum_at, Satisfies, IsMultiple, IsCombination}
 use Rattle.tableau_rows.proofs.RingLaws.{mul-eq-zero}
-use Rattle.bounded_simplex.specs.TableauOf.{AllHold, AreApart}
+use Rattle.bounded_simplex.specs.TableauOf.{AllHold, AreApart, AreWithin, TableauOf}
+use Rattle.mix_system.specs.System.{System}
 use Rattle.bounded_simplex.specs.Pivot.{IsChanged, IsSolvedAnew, ArePivoted, IsFresh, chosen, ArePut}
 
 times_zero : (a b : ℤ) → b ≡ pos 0 → a *ℤ b ≡ pos 0
@@ -57,6 +58,21 @@ module _ (at entering : ℕ) (old new : List Equation) (within : at < length old
       let at_other : at ≢ j = (λ e. other (sym e)) in
       rw basic (at_or_not i (λ same. rw same (multiple_zero (get_or new at d) (get_or old at d) (pivoted.own d).multiple (unit (get_or old j d).basic) (apart at j d within j_in at_other)))
       (λ i_other. combination_zero (get_or new i d) (get_or old i d) (get_or old at d) (pivoted.others i d i_in i_other).combination (unit (get_or old j d).basic) (apart i j d i_in j_in differ) (apart at j d within j_in at_other))))
+
+  pub pivot_known : (columns : ℕ) → AreWithin columns old → AreWithin columns new
+  pivot_known columns known k d column inside beyond =
+      let before = λ (j : ℕ) (j_within : j < length old). known j d column j_within beyond in
+      at_or_not k (λ same. rw same (multiple_zero (get_or new at d) (get_or old at d) (pivoted.own d).multiple (unit column) (before at within)))
+      (λ other. let k_within : k < length old = omega (arith, pivoted.as_many) in
+      combination_zero (get_or new k d) (get_or old k d) (get_or old at d) (pivoted.others k d k_within other).combination (unit column) (before k k_within) (before at within))
+
+  pub pivot_tableau : (system : System) → TableauOf system old → TableauOf system new
+  pivot_tableau system of_old = record {
+    apart = pivot_apart of_old.apart;
+    one_each = pivoted.as_many ∙ of_old.one_each;
+    known = pivot_known (length system.ranges + length system.rows) of_old.known;
+    same_solutions = λ number. (λ solves. pivot_holds number ((of_old.same_solutions number).0 solves), λ all. (of_old.same_solutions number).1 (pivot_held number all));
+  }
 
 -- an equation that doesn't take the column stays as it is
 stays : (row pivot : Equation) (entering : ℕ) → taken row entering ≡ pos 0 → IsChanged row row pivot entering

@@ -1,7 +1,12 @@
+pub mod Answer
 pub mod BoundPlaces
+pub mod Broken
+pub mod Event
 pub mod InForce
 pub mod Pivot
+pub mod Point
 pub mod Refutation
+pub mod Settled
 pub mod StoredBounds
 pub mod TableauOf
 pub mod Terms

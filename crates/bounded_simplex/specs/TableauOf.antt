@@ -1,5 +1,5 @@
 -- The tableau of a system: equations that have the same solutions as the system's rows, each solved for a basic column of its own.
-use Rattle.std.specs.Prelude.{◌≡◌, ◌≢◌, ◌↔◌, ℕ, ◌+◌, ◌<◌, ℤ, pos, negsuc, ◌*ℤ◌, List, [], ◌∷◌, ◌++◌, length, map, slice_index_or, All}
+use Rattle.std.specs.Prelude.{◌≡◌, ◌≢◌, ◌↔◌, ℕ, ◌+◌, ◌<◌, ◌≤◌, ℤ, pos, negsuc, ◌*ℤ◌, List, [], ◌∷◌, ◌++◌, length, map, slice_index_or, All}
 use Rattle.mix_system.specs.declared.literal.Term.{Term}
 use Rattle.mix_system.specs.declared.literal.Term.TheVariants.{Var, Row}
 use Rattle.mix_system.specs.declared.row.Part.{Part}
@@ -29,10 +29,16 @@ abbrev pub AreApart : List Equation → Type 0
 AreApart rows =
     (i j : ℕ) (d : Equation) → i < length rows → j < length rows → i ≢ j → taken (slice_index_or rows i d) (slice_index_or rows j d).basic ≡ pos 0
 
+-- no equation takes a column from that number on
+abbrev pub AreWithin : ℕ → List Equation → Type 0
+AreWithin columns rows =
+    (k : ℕ) (d : Equation) (column : ℕ) → k < length rows → columns ≤ column → taken (slice_index_or rows k d) column ≡ pos 0
+
 -- the equations have the same solutions as the system's rows: each solution of the one is one of the other
 pub record TableauOf (system : System) (rows : List Equation) : Type 0 where
   pub apart : AreApart rows
   pub one_each : length rows ≡ length system.rows
+  pub known : AreWithin (length system.ranges + length system.rows) rows
   pub same_solutions : (number : ℕ → ℤ) → Solves system number ↔ AllHold rows number
 
 -- the equation of a row of the system: its parts less its own column

@@ -1,6 +1,6 @@
 ghost use Rattle.std.specs.Prelude.{◌≡◌, ◌↔◌, ◌+◌, ◌-◌, ◌*◌, ◌<◌, ◌≤◌, ◌^◌, false, [], ◌∷◌, ◌++◌, length, take, IfOk, OnOk, IsTrue};
 ghost use Rattle.bounded_simplex.specs.BoundPlaces.{place_of as place_of_side};
-ghost use Rattle.mix_system.specs.System.{Exists};
+ghost use Rattle.mix_system.specs.System.{Exists, IsWellFormed};
 ghost use Rattle.bounded_simplex.specs.Terms.{term_of};
 ghost use Rattle.bounded_simplex.specs.InForce.{tightened as tighter_end, in_force, Contradict};
 
@@ -73,6 +73,21 @@ impl<'a> Bounds<'a> {
         })
     }
 
+    /// The system.
+    pub fn system(&self) -> &System
+        ensures { result.now ≡ self.now.system }
+    {
+        self.system
+    }
+
+    /// How many columns there are: one for each variable and each row.
+    pub fn columns(&self) -> u32
+        ensures count { result ≡ length self.now.system.ranges + length self.now.system.rows }
+        ensures well_formed { IsWellFormed self.now.system }
+    {
+        self.system.vars() + self.system.rows()
+    }
+
     /// How many more changes there is room for.
     pub fn spare(&self) -> u32
         ensures count { result + length self.now.changes ≡ self.now.room }
@@ -140,6 +155,7 @@ impl<'a> Bounds<'a> {
     pub fn term_at(&self, column: u32) -> Term
         requires { column < length self.now.system.ranges + length self.now.system.rows }
         ensures term { result ≡ term_of (length self.now.system.ranges) column }
+        ensures well_formed { IsWellFormed self.now.system }
         ensures exists { Exists (length self.now.system.ranges) (length self.now.system.rows) result }
     {
         let vars = self.system.vars();

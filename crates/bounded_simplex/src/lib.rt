@@ -2,11 +2,21 @@
 #![tactic(auto)]
 
 mod bounds;
+mod broken;
+mod check;
+mod entering;
+mod excess;
 mod laws;
+mod mending;
 mod refutation;
+mod settle;
+mod simplex;
 mod tableau;
 
 pub use bounds::{Bounds, Mark};
+pub use check::Check;
+pub use excess::{Place, TableauExcess};
 pub use laws::equations_cancel_out;
 pub use refutation::{contradiction, refute};
+pub use simplex::Simplex;
 pub use tableau::{PivotExcess, Tableau};

@@ -1,11 +1,12 @@
-ghost use Rattle.std.specs.Prelude.{◌≡◌, ◌≢◌, ℕ, ◌+◌, ◌<◌, ℤ, pos, ◌+ℤ◌, ◌≤ℤ◌, [], ◌∷◌, ◌↔◌, length, All, IfOk, IfErr, IfSome, IsSome};
+ghost use Rattle.std.specs.Prelude.{◌≡◌, ◌≢◌, ℕ, ◌+◌, ◌<◌, ℤ, pos, ◌+ℤ◌, ◌<ℤ◌, ◌≤ℤ◌, not, None, [], ◌∷◌, ◌↔◌, length, All, IfOk, IfErr, IfSome, IfNone, IsSome};
 ghost use Rattle.wx_num.specs.Excess.{Overflows};
 ghost use Rattle.mix_system.specs.System.{Exists};
 ghost use Rattle.mix_system.specs.FarkasSum.{FarkasRefutes, bound_weight};
 ghost use Rattle.tableau_rows.specs.Equation.{total};
 ghost use Rattle.bounded_simplex.specs.InForce.{in_force, Contradict};
 ghost use Rattle.bounded_simplex.specs.Terms.{times_in_column};
-ghost use Rattle.bounded_simplex.specs.Refutation.{box_of, IsPartOf, SaysInForce};
+ghost use Rattle.tableau_rows.specs.Turning.{turned_number};
+ghost use Rattle.bounded_simplex.specs.Refutation.{box_of, columns_of, bound_on, hindering, IsHindered, IsPartOf, SaysInForce};
 
 use crate::Bounds;
 use mix_system::{Farkas, FarkasPart, FarkasParts, Lit, Side, Term};
@@ -14,18 +15,28 @@ use tableau_rows::{Entry, Equation};
 use wx_base::NoMemory;
 use wx_num::{Excess, Num};
 
-/// The combination of bounds in force by which an equation refutes them, each column counted as often as the equation takes it, or, downwards, with the other sign.
-/// `None` where a bound is wanting, or where these bounds don't contradict each other.
+/// The combination of bounds in force by which an equation refutes them: each column is counted as
+/// often as the equation takes it, or, downwards, with the other sign.
+///
+/// `None` where a bound is wanting, or where these bounds don't contradict each other. So there is one
+/// wherever each column stands at its bound and the sum of these isn't 0 on the side that is asked.
 pub fn refute(
     alloc: Global,
     bounds: &Bounds<'_>,
     equation: &Equation,
     upwards: bool,
 ) -> Result<Result<Option<Farkas>, Excess>, NoMemory>
-    requires within { All (λ entry. entry.column < length bounds.now.system.ranges + length bounds.now.system.rows) equation.now.entries.items }
-    requires cancels { (var : ℕ) → total (times_in_column bounds.now.system var) equation.now.entries.items ≡ pos 0 }
-    ensures refutes { IfOk result (λ found. IfOk found (λ farkas. IfSome farkas (λ f. FarkasRefutes bounds.now.system.rows (box_of bounds.now) f.parts))) }
-    ensures says { IfOk result (λ found. IfOk found (λ farkas. IfSome farkas (λ f. All (λ part. SaysInForce bounds.now part.lit) f.parts))) }
+    requires within { All (λ entry. entry.column < columns_of bounds.now.system) equation.now.entries.items }
+    requires cancels { (var : ℕ)
+        → total (times_in_column bounds.now.system var) equation.now.entries.items ≡ pos 0 }
+    ensures refutes { IfOk result (λ found. IfOk found (λ farkas. IfSome farkas
+        (λ f. FarkasRefutes bounds.now.system.rows (box_of bounds.now) f.parts))) }
+    ensures says { IfOk result (λ found. IfOk found (λ farkas. IfSome farkas
+        (λ f. All (λ part. SaysInForce bounds.now part.lit) f.parts))) }
+    ensures found { (number : ℕ → ℤ)
+        → All (IsHindered bounds.now upwards number) equation.now.entries.items
+        → turned_number (not upwards) (total number equation.now.entries.items) <ℤ pos 0
+        → IfOk result (λ found. IfOk found IsSome) }
     ensures overflows { IfOk result (λ found. IfErr found Overflows) }
 {
     let mut parts = FarkasParts::new(alloc);
@@ -55,9 +66,12 @@ pub fn contradiction(
     term: Term,
 ) -> Result<Option<Farkas>, NoMemory>
     requires { Exists (length bounds.now.system.ranges) (length bounds.now.system.rows) term }
-    ensures refutes { IfOk result (λ found. IfSome found (λ f. FarkasRefutes bounds.now.system.rows (box_of bounds.now) f.parts)) }
-    ensures says { IfOk result (λ found. IfSome found (λ f. All (λ part. SaysInForce bounds.now part.lit) f.parts)) }
-    ensures none { IfOk result (λ found. IsSome found ↔ Contradict (in_force bounds.now term Side.Ge) (in_force bounds.now term Side.Le)) }
+    ensures refutes { IfOk result (λ found. IfSome found
+        (λ f. FarkasRefutes bounds.now.system.rows (box_of bounds.now) f.parts)) }
+    ensures says { IfOk result (λ found. IfSome found
+        (λ f. All (λ part. SaysInForce bounds.now part.lit) f.parts)) }
+    ensures none { IfOk result (λ found. IsSome found
+        ↔ Contradict (in_force bounds.now term Side.Ge) (in_force bounds.now term Side.Le)) }
 {
     let Some(low) = bounds.low(term) else {
         return Ok(None);
@@ -89,6 +103,27 @@ pub fn contradiction(
     }))
 }
 
+/// The two bounds of the first term whose bounds contradict each other, `None` where there is no such term.
+pub(crate) fn first_contradiction(
+    alloc: Global,
+    bounds: &Bounds<'_>,
+) -> Result<Option<Farkas>, NoMemory>
+    ensures refutes { IfOk result (λ found. IfSome found
+        (λ f. FarkasRefutes bounds.now.system.rows (box_of bounds.now) f.parts)) }
+    ensures says { IfOk result (λ found. IfSome found
+        (λ f. All (λ part. SaysInForce bounds.now part.lit) f.parts)) }
+    ensures none { IfOk result (λ found. IfNone found ((column : ℕ) → column < columns_of bounds.now.system
+        → ¬ Contradict (bound_on bounds.now column Side.Ge) (bound_on bounds.now column Side.Le))) }
+{
+    for column in 0..bounds.columns() {
+        match contradiction(alloc, bounds, bounds.term_at(column))? {
+            Some(farkas) => return Ok(Some(farkas)),
+            None => {}
+        }
+    }
+    Ok(None)
+}
+
 // The list of two parts.
 fn two(alloc: Global, first: FarkasPart, second: FarkasPart) -> Result<FarkasParts, NoMemory>
     ensures { IfOk result (λ parts. parts ≡ first ∷ second ∷ []) }
@@ -101,9 +136,11 @@ fn two(alloc: Global, first: FarkasPart, second: FarkasPart) -> Result<FarkasPar
 
 // The part of an entry, None where the bound that it wants isn't there.
 fn part_of(bounds: &Bounds<'_>, entry: Entry, upwards: bool) -> Result<Option<FarkasPart>, Excess>
-    requires within { entry.column < length bounds.now.system.ranges + length bounds.now.system.rows }
+    requires within { entry.column < columns_of bounds.now.system }
     requires nonzero { entry.coeff ≢ pos 0 }
     ensures part { IfOk result (λ found. IfSome found (IsPartOf bounds.now upwards entry)) }
+    ensures none { IfOk result (λ found. IfNone found
+        (bound_on bounds.now entry.column (hindering upwards entry.coeff) ≡ None)) }
     ensures overflows { IfErr result Overflows }
 {
     let term = bounds.term_at(entry.column);
@@ -126,6 +163,7 @@ fn part_at(bounds: &Bounds<'_>, term: Term, side: Side, by: i128) -> Option<Fark
     ensures side { IfSome result (λ part. part.lit.side ≡ side) }
     ensures by { IfSome result (λ part. part.by ≡ by) }
     ensures says { IfSome result (λ part. SaysInForce bounds.now part.lit) }
+    ensures none { IfNone result (in_force bounds.now term side ≡ None) }
 {
     match bounds.end(term, side) {
         Some(bound) => Some(FarkasPart {

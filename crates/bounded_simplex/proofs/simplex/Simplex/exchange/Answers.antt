@@ -1,0 +1,43 @@
+use Rattle.std.proofs.Common.{◌≡◌, ◌≢◌, ℕ, ◌<◌, length, sym, ap, subst, ◌∙◌, inr, rules, arith}
+use Rattle.wx_num.specs.Excess.{Overflows}
+use Rattle.tableau_rows.specs.declared.equation.Equation.{Equation}
+use Rattle.bounded_simplex.specs.InForce.{in_force}
+use Rattle.bounded_simplex.specs.Pivot.{ArePivoted, IsPivotExcess}
+use Rattle.bounded_simplex.specs.Point.{AreInBounds}
+use Rattle.bounded_simplex.specs.Refutation.{columns_of, bound_on}
+use Rattle.bounded_simplex.specs.Settled.{at_bound}
+use Rattle.bounded_simplex.specs.Terms.{term_of}
+use Rattle.bounded_simplex.proofs.PivotLaws.{pivot_tableau}
+use Rattle.bounded_simplex.proofs.StepLaws.{at_bound_in_bounds, length_at_bound}
+use Rattle.bounded_simplex.proofs.WithinLaws.{basic_known, taken_known}
+use Rattle.bounded_simplex.proofs.simplex.Simplex.exchange.Goals as goal
+
+pub term_at-basic-requires : goal.term_at-basic-requires
+term_at-basic-requires c =
+    let s = c.args.self.now in
+    basic_known (columns_of s.bounds.system) s.tableau.rows.items c.args.broken.at c.args.broken.basic s.tableau_of.known c.requires.broken.within c.requires.broken.basic
+
+pub term_at-entering-requires : goal.term_at-entering-requires
+term_at-entering-requires c =
+    let s = c.args.self.now in
+    taken_known (columns_of s.bounds.system) s.tableau.rows.items c.args.broken.at c.args.column s.tableau_of.known c.requires.broken.within c.requires.takes
+
+pub term_at-changed-requires : goal.term_at-changed-requires
+term_at-changed-requires c =
+    let s = c.args.self.now in
+    let step : IsPivotExcess s.tableau.rows.items c.args.broken.at c.args.column c.in-Err.field-0.changed c.in-Err.field-0.excess = search rules in
+    basic_known (columns_of s.bounds.system) s.tableau.rows.items step.place c.in-Err.field-0.changed s.tableau_of.known step.within step.basic
+
+pub invariant_of-self-in-Ok-clause-tableau_of : goal.invariant_of-self-in-Ok-clause-tableau_of
+invariant_of-self-in-Ok-clause-tableau_of c =
+    let s = c.args.self.now in
+    let pivoted : ArePivoted c.args.broken.at c.args.column s.tableau.rows.items c.pivot.new.self.rows.items = search rules in
+    pivot_tableau c.args.broken.at c.args.column s.tableau.rows.items c.pivot.new.self.rows.items c.requires.broken.within pivoted s.bounds.system s.tableau_of
+
+pub returns-in-Ok-clause-in_bounds : goal.returns-in-Ok-clause-in_bounds
+returns-in-Ok-clause-in_bounds c =
+    let s = c.args.self.now in
+    let within = basic_known (columns_of s.bounds.system) s.tableau.rows.items c.args.broken.at c.args.broken.basic s.tableau_of.known c.requires.broken.within c.requires.broken.basic in
+    let is = c.put_at_bound.ensures in
+    let end = c.end-bound.ensures ∙ ap (λ t. in_force s.bounds t c.args.broken.side) c.term_at-basic.ensures.term in
+    subst (AreInBounds s.bounds) (sym is) (at_bound_in_bounds s.bounds s.values.items c.args.broken.basic c.args.broken.side c.end-bound.result (omega (arith, within, s.one_each)) end c.requires.in_bounds)

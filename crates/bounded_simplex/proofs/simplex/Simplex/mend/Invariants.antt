@@ -1,0 +1,16 @@
+use Rattle.std.proofs.Common.{◌≡◌, ◌≤◌, ◌-◌, false}
+use Rattle.mix_system.specs.Tally.{pivot_bound}
+use Rattle.bounded_simplex.specs.Point.{AreInBounds}
+use Rattle.bounded_simplex.proofs.simplex.Simplex.mend.Given as goal
+
+abbrev pub invariant-loop-broken : goal.invariant-loop-broken
+invariant-loop-broken l =
+    record {
+      bounds : l.self.bounds ≡ l.initial.self.bounds;
+      in_bounds : AreInBounds l.self.bounds l.self.values.items;
+      made : l.self.made ≤ l.most;
+      no_point : l.self.has_point ≡ false;
+    }
+
+abbrev pub decreases-loop-broken : goal.decreases-loop-broken
+decreases-loop-broken l = l.most - l.self.made

@@ -1,0 +1,60 @@
+-- The numbers that a place of the tableau forms, and that leave 128 bits.
+use Rattle.std.specs.Prelude.{◌≡◌, ◌⊎◌, ℕ, ◌<◌, ℤ, List, length, slice_index_or, Some, IsSome}
+use Rattle.wx_num.specs.declared.excess.NumOp.TheVariants.{Times}
+use Rattle.wx_num.specs.declared.excess.Excess.{Excess}
+use Rattle.wx_num.specs.Excess.{Overflows}
+use Rattle.mix_system.specs.declared.literal.Side.TheVariants.{Le, Ge}
+use Rattle.mix_system.specs.declared.literal.Term.{Term}
+use Rattle.mix_system.specs.Row.{number_at}
+use Rattle.tableau_rows.specs.declared.equation.Equation.{Equation}
+use Rattle.tableau_rows.specs.Turning.{others, IsSumStep}
+use Rattle.bounded_simplex.specs.InForce.{BoundChanges}
+use Rattle.bounded_simplex.specs.Pivot.{IsPivotExcess}
+use Rattle.bounded_simplex.specs.Refutation.{bound_on}
+use Rattle.bounded_simplex.specs.Terms.{term_of}
+use Rattle.bounded_simplex.specs.declared.excess.Place.{Place}
+use Rattle.bounded_simplex.specs.declared.excess.Place.TheVariants.{Value, Compare, Pivot, Combine}
+use Rattle.bounded_simplex.specs.declared.excess.TableauExcess.{TableauExcess}
+
+-- the term of an equation's basic column
+abbrev pub basic_term : BoundChanges → Equation → Term
+basic_term bounds equation = term_of (length bounds.system.ranges) equation.basic
+
+-- a step of the sum that gives the value of a basic term with a bound
+pub record IsValueStep (bounds : BoundChanges) (values : List ℤ) (equation : Equation) (excess : Excess) : Type 0 where
+  pub bounded : IsSome (bound_on bounds equation.basic Ge) ⊎ IsSome (bound_on bounds equation.basic Le)
+  pub step : IsSumStep (number_at values) (others equation.basic equation.entries.items) excess
+
+-- the denominator times a bound in force on the basic term
+pub record IsCompareStep (bounds : BoundChanges) (equation : Equation) (bound : ℤ) (excess : Excess) : Type 0 where
+  pub bounded : (bound_on bounds equation.basic Ge ≡ Some bound) ⊎ (bound_on bounds equation.basic Le ≡ Some bound)
+  pub formed : excess ≡ record { op = Times; x = equation.denominator; y = bound }
+
+-- what an equation forms at a place
+abbrev pub IsFormedAt : BoundChanges → List ℤ → Equation → Place → Excess → Type 0
+IsFormedAt bounds values equation (Value basic) excess =
+    (basic ≡ basic_term bounds equation) × IsValueStep bounds values equation excess
+IsFormedAt bounds values equation (Compare basic bound) excess =
+    (basic ≡ basic_term bounds equation) × IsCompareStep bounds equation bound excess
+IsFormedAt bounds values equation (Combine basic) excess = basic ≡ basic_term bounds equation
+IsFormedAt bounds values equation (Pivot basic entering changed) excess = ⊥
+
+pub record IsOfEquation (bounds : BoundChanges) (rows : List Equation) (values : List ℤ) (fault : TableauExcess) : Type 0 where
+  pub at : ℕ
+  pub within : at < length rows
+  pub formed : (d : Equation) → IsFormedAt bounds values (slice_index_or rows at d) fault.place fault.excess
+
+-- a pivot's step
+pub record IsOfPivot (bounds : BoundChanges) (rows : List Equation) (fault : TableauExcess) : Type 0 where
+  pub at : ℕ
+  pub within : at < length rows
+  pub entering : ℕ
+  pub changed : ℕ
+  pub place : (d : Equation) → fault.place
+      ≡ Pivot (basic_term bounds (slice_index_or rows at d)) (term_of (length bounds.system.ranges) entering) (term_of (length bounds.system.ranges) changed)
+  pub step : IsPivotExcess rows at entering changed fault.excess
+
+-- the two numbers are formed at the place, and the result of the operation on them leaves 128 bits
+pub record IsEvent (bounds : BoundChanges) (rows : List Equation) (values : List ℤ) (fault : TableauExcess) : Type 0 where
+  pub formed : IsOfEquation bounds rows values fault ⊎ IsOfPivot bounds rows fault
+  pub overflows : Overflows fault.excess

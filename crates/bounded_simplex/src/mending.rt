@@ -1,0 +1,178 @@
+ghost use Rattle.std.specs.Prelude.{◌≡◌, ◌≢◌, ◌⊎◌, ◌↔◌, ◌+◌, ◌<◌, ◌≤◌, ◌^◌, pos, true, false, length, All, slice_index_or, IfOk, IfErr, IfSome, IfNone, OnOk, OnErr};
+ghost use Rattle.mix_system.specs.Row.{number_at};
+ghost use Rattle.mix_system.specs.Tally.{units, CountsOne, pivot_bound};
+ghost use Rattle.tableau_rows.specs.Substitution.{taken};
+ghost use Rattle.tableau_rows.specs.declared.equation.Equation.{Equation as AnEquation};
+ghost use Rattle.bounded_simplex.specs.Answer.{Answers, IsSpent, is_point};
+ghost use Rattle.bounded_simplex.specs.Broken.{IsBroken, side_of};
+ghost use Rattle.bounded_simplex.specs.Event.{IsEvent};
+ghost use Rattle.bounded_simplex.specs.Point.{AreInBounds};
+ghost use Rattle.bounded_simplex.specs.Refutation.{columns_of, IsHindered};
+
+use crate::broken::{Broken, first_broken};
+use crate::entering::entering;
+use crate::refutation::first_contradiction;
+use crate::settle::{put_at_bound, settle};
+use crate::{Check, PivotExcess, Place, Simplex, TableauExcess, refute};
+use mix_system::{Side, Tally, Work};
+use std::alloc::Global;
+use wx_base::NoMemory;
+
+impl Simplex<'_> {
+    /// Looks for a rational point inside all bounds in force, by pivots; it counts one check.
+    /// The bounds and their changes stay as they are.
+    ///
+    /// `Spent` comes exactly where the budget was spent before. After `NoMemory` the simplex is one of the same system
+    /// and bounds.
+    pub fn check(&mut self, alloc: Global, tally: &mut Tally) -> Result<Check, NoMemory>
+        ensures bounds { self.new.bounds ≡ self.old.bounds }
+        ensures answer { IfOk result
+            (Answers self.new.bounds self.new.tableau.rows.items self.new.values.items self.new.made) }
+        ensures made { self.new.made ≤ pivot_bound self.new.bounds.system }
+        ensures point { IfOk result (λ check. self.new.has_point ≡ is_point check) }
+        ensures spent { IfOk result (λ check. IsSpent check ↔ (units tally.old ≡ tally.old.budget)) }
+        ensures counted { units tally.old ≢ tally.old.budget → CountsOne Work.Check tally.old tally.new }
+        ensures unchanged { units tally.old ≡ tally.old.budget → tally.new ≡ tally.old }
+    {
+        self.made = 0;
+        self.has_point = false;
+        if !tally.tick(Work::Check) {
+            return Ok(Check::Spent);
+        }
+        if let Some(farkas) = first_contradiction(alloc, &self.bounds)? {
+            return Ok(Check::Refuted(farkas));
+        }
+        settle(&self.bounds, &mut self.values);
+        self.mend(alloc)
+    }
+
+    // Mends broken basic columns by pivots, the least column first.
+    fn mend(&mut self, alloc: Global) -> Result<Check, NoMemory>
+        requires in_bounds { AreInBounds self.old.bounds self.old.values.items }
+        requires none_made { self.old.made ≡ 0 }
+        requires no_point { self.old.has_point ≡ false }
+        ensures bounds { self.new.bounds ≡ self.old.bounds }
+        ensures answer { IfOk result
+            (Answers self.new.bounds self.new.tableau.rows.items self.new.values.items self.new.made) }
+        ensures made { self.new.made ≤ pivot_bound self.new.bounds.system }
+        ensures point { IfOk result (λ check. self.new.has_point ≡ is_point check) }
+        ensures not_spent { IfOk result (λ check. ¬ IsSpent check) }
+    {
+        let most = 16 * u64::from(self.bounds.columns());
+        loop {
+            let broken = match first_broken(&self.bounds, &self.tableau.rows, &self.values) {
+                Ok(Some(broken)) => broken,
+                Ok(None) => {
+                    self.has_point = true;
+                    return Ok(Check::Point);
+                }
+                Err(fault) => return Ok(Check::Excess(fault)),
+            };
+            let upwards = is_below(broken.side);
+            let Some(column) = self.entering_for(broken, upwards) else {
+                return self.refuted(alloc, broken, upwards);
+            };
+            if self.made >= most {
+                return Ok(Check::Paused);
+            }
+            match self.exchange(alloc, broken, column)? {
+                Ok(()) => {}
+                Err(fault) => return Ok(Check::Excess(fault)),
+            }
+        }
+    }
+
+    // The least column outside the basis that can move a broken basic column towards its bound.
+    fn entering_for(&self, broken: Broken, upwards: bool) -> Option<u32>
+        requires { broken.at < length self.now.tableau.rows.items }
+        ensures none { IfNone result ((d : AnEquation)
+            → All (λ entry. (entry.column ≡ (slice_index_or self.now.tableau.rows.items broken.at d).basic)
+            ⊎ IsHindered self.now.bounds upwards (number_at self.now.values.items) entry)
+            (slice_index_or self.now.tableau.rows.items broken.at d).entries.items) }
+        ensures takes { IfSome result (λ column. (d : AnEquation)
+            → taken (slice_index_or self.now.tableau.rows.items broken.at d) column ≢ pos 0) }
+        ensures enters { IfSome result (λ column. (d : AnEquation)
+            → (slice_index_or self.now.tableau.rows.items broken.at d).basic ≢ column) }
+    {
+        let equation = &self.tableau.rows[broken.at];
+        entering(&self.bounds, &self.values, equation, upwards)
+    }
+
+    // The refutation by a broken equation of which no column can move.
+    fn refuted(&self, alloc: Global, broken: Broken, upwards: bool) -> Result<Check, NoMemory>
+        requires broken { IsBroken self.now.bounds self.now.tableau.rows.items self.now.values.items broken }
+        requires upwards { broken.side ≡ side_of upwards }
+        requires stays { (d : AnEquation)
+            → All (λ entry. (entry.column ≡ (slice_index_or self.now.tableau.rows.items broken.at d).basic)
+            ⊎ IsHindered self.now.bounds upwards (number_at self.now.values.items) entry)
+            (slice_index_or self.now.tableau.rows.items broken.at d).entries.items }
+        ensures answer { IfOk result
+            (Answers self.now.bounds self.now.tableau.rows.items self.now.values.items self.now.made) }
+        ensures no_point { IfOk result (λ check. is_point check ≡ false) }
+        ensures not_spent { IfOk result (λ check. ¬ IsSpent check) }
+    {
+        let equation = &self.tableau.rows[broken.at];
+        let basic = self.bounds.term_at(equation.basic);
+        match refute(alloc, &self.bounds, equation, upwards)? {
+            Ok(Some(farkas)) => Ok(Check::Refuted(farkas)),
+            // There is one, as each column stands at its bound.
+            Ok(None) => Ok(Check::Paused),
+            Err(excess) => {
+                let place = Place::Combine { basic };
+                Ok(Check::Excess(TableauExcess { place, excess }))
+            }
+        }
+    }
+
+    // The pivot by which a column takes the place of a broken basic one, which leaves the basis at the bound that it broke.
+    fn exchange(
+        &mut self,
+        alloc: Global,
+        broken: Broken,
+        column: u32,
+    ) -> Result<Result<(), TableauExcess>, NoMemory>
+        requires broken { IsBroken self.old.bounds self.old.tableau.rows.items self.old.values.items broken }
+        requires in_bounds { AreInBounds self.old.bounds self.old.values.items }
+        requires takes { (d : AnEquation) → taken (slice_index_or self.old.tableau.rows.items broken.at d) column ≢ pos 0 }
+        requires enters { (d : AnEquation) → (slice_index_or self.old.tableau.rows.items broken.at d).basic ≢ column }
+        requires few_made { self.old.made + 1 < 2 ^ 64 }
+        ensures bounds { self.new.bounds ≡ self.old.bounds }
+        ensures has_point { self.new.has_point ≡ self.old.has_point }
+        ensures in_bounds { IfOk result (λ found. OnOk found (AreInBounds self.new.bounds self.new.values.items)) }
+        ensures made { IfOk result (λ found. OnOk found (self.new.made ≡ self.old.made + 1)) }
+        ensures not_made { IfOk result (λ found. OnErr found (self.new.made ≡ self.old.made)) }
+        ensures no_memory { OnErr result (self.new.made ≡ self.old.made) }
+        ensures excess { IfOk result (λ found. IfErr found
+            (IsEvent self.new.bounds self.new.tableau.rows.items self.new.values.items)) }
+    {
+        let basic = self.bounds.term_at(broken.basic);
+        let entering = self.bounds.term_at(column);
+        match self.tableau.pivot(alloc, broken.at, column)? {
+            Ok(()) => {
+                let bound = self.bounds.end(basic, broken.side);
+                put_at_bound(&mut self.values, broken.basic, bound);
+                self.made += 1;
+                Ok(Ok(()))
+            }
+            Err(PivotExcess { changed, excess }) => {
+                let changed = self.bounds.term_at(changed);
+                let place = Place::Pivot {
+                    basic,
+                    entering,
+                    changed,
+                };
+                Ok(Err(TableauExcess { place, excess }))
+            }
+        }
+    }
+}
+
+// Whether the lower bound is the broken one, so that the basic column is to be moved upwards.
+fn is_below(side: Side) -> bool
+    ensures { side ≡ side_of result }
+{
+    match side {
+        Side::Ge => true,
+        Side::Le => false,
+    }
+}

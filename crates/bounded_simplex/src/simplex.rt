@@ -1,0 +1,125 @@
+ghost use Rattle.std.specs.Prelude.{◌≡◌, ◌≢◌, ◌↔◌, ℕ, ◌+◌, ◌<◌, ◌≤◌, ℤ, pos, false, [], ◌∷◌, ◌++◌, length, take, All, slice_index_or, Option, IfOk, IfErr, IfSome, IfNone, OnOk, OnErr};
+ghost use Rattle.mix_system.specs.Row.{number_at};
+ghost use Rattle.mix_system.specs.System.{Exists};
+ghost use Rattle.bounded_simplex.specs.InForce.{in_force, Contradict};
+ghost use Rattle.bounded_simplex.specs.Refutation.{columns_of, bound_on};
+ghost use Rattle.bounded_simplex.specs.TableauOf.{TableauOf};
+
+use crate::{Bounds, Mark, Tableau};
+use mix_system::{Lit, Side, System, Term};
+use std::alloc::Global;
+use wx_base::NoMemory;
+
+/// The exact simplex: the bounds in force on a system, a tableau of it, and the value of each column.
+/// The values of the basic columns are those that the tableau gives; what is stored for them isn't read.
+#[derive(Debug, Drop)]
+pub struct Simplex<'a> {
+    pub bounds: Bounds<'a>,
+    pub tableau: Tableau,
+    pub values: Vec<i128>,
+    /// The pivots of the last check, 0 before the first.
+    pub made: u64,
+    /// Whether the last check kept a point and no bound was put or given back since.
+    pub has_point: bool,
+    pub ghost tableau_of: { TableauOf bounds.system tableau.rows.items },
+    pub ghost one_each: { length values.items ≡ columns_of bounds.system },
+}
+
+impl<'a> Simplex<'a> {
+    /// The simplex of a system, with room for so many changes of bounds and none made. The basis is the rows, and each
+    /// variable has the least value of its range.
+    pub fn new(alloc: Global, system: &'a System, room: u32) -> Result<Simplex<'a>, NoMemory>
+        ensures system { IfOk result (λ simplex. simplex.bounds.system ≡ system.entry.now) }
+        ensures changes { IfOk result (λ simplex. simplex.bounds.changes ≡ []) }
+        ensures room { IfOk result (λ simplex. simplex.bounds.room ≡ room) }
+        ensures made { IfOk result (λ simplex. simplex.made ≡ 0) }
+        ensures no_point { IfOk result (λ simplex. simplex.has_point ≡ false) }
+    {
+        let bounds = Bounds::new(alloc, system, room)?;
+        let tableau = Tableau::new(alloc, system)?;
+        let values = first_values(alloc, system)?;
+        Ok(Simplex {
+            bounds,
+            tableau,
+            values,
+            made: 0,
+            has_point: false,
+        })
+    }
+
+    /// How many more changes there is room for.
+    pub fn spare(&self) -> u32
+        ensures count { result + length self.now.bounds.changes ≡ self.now.bounds.room }
+    {
+        self.bounds.spare()
+    }
+
+    /// Puts a literal to the bounds, as one change, whether it tightens a bound or not. False exactly where the term's
+    /// bounds then contradict each other; the change is made all the same. It takes no memory.
+    pub fn assert_bound(&mut self, lit: &Lit) -> bool
+        requires spare { length self.old.bounds.changes < self.old.bounds.room }
+        requires exists { Exists (length self.old.bounds.system.ranges) (length self.old.bounds.system.rows) lit.now.term }
+        ensures changes { self.new.bounds ≡ record self.old.bounds { changes = self.old.bounds.changes ++ lit.now ∷ [] } }
+        ensures answer { (result ≡ false)
+            ↔ Contradict (in_force self.new.bounds lit.now.term Side.Ge) (in_force self.new.bounds lit.now.term Side.Le) }
+        ensures tableau { self.new.tableau ≡ self.old.tableau }
+        ensures values { self.new.values.items ≡ self.old.values.items }
+        ensures made { self.new.made ≡ self.old.made }
+        ensures no_point { self.new.has_point ≡ false }
+    {
+        self.has_point = false;
+        self.bounds.assert_bound(lit)
+    }
+
+    /// The number of changes in force.
+    pub fn mark(&self) -> Mark
+        ensures { result.changes ≡ length self.now.bounds.changes }
+    {
+        self.bounds.mark()
+    }
+
+    /// Keeps just the first changes, as many as there were at the mark. The tableau stays as it is. It takes no memory.
+    pub fn back_to(&mut self, mark: Mark)
+        requires { mark.changes ≤ length self.old.bounds.changes }
+        ensures changes { self.new.bounds ≡ record self.old.bounds { changes = take mark.changes self.old.bounds.changes } }
+        ensures tableau { self.new.tableau ≡ self.old.tableau }
+        ensures values { self.new.values.items ≡ self.old.values.items }
+        ensures made { self.new.made ≡ self.old.made }
+        ensures no_point { self.new.has_point ≡ false }
+    {
+        self.has_point = false;
+        self.bounds.back_to(mark);
+    }
+
+    /// The lower bound in force, `None` where the term has none.
+    pub fn low(&self, term: Term) -> Option<i128>
+        requires { Exists (length self.now.bounds.system.ranges) (length self.now.bounds.system.rows) term }
+        ensures { result ≡ in_force self.now.bounds term Side.Ge }
+    {
+        self.bounds.low(term)
+    }
+
+    /// The upper bound in force, `None` where the term has none.
+    pub fn high(&self, term: Term) -> Option<i128>
+        requires { Exists (length self.now.bounds.system.ranges) (length self.now.bounds.system.rows) term }
+        ensures { result ≡ in_force self.now.bounds term Side.Le }
+    {
+        self.bounds.high(term)
+    }
+}
+
+// The least value of each variable's range, and 0 for each row.
+fn first_values(alloc: Global, system: &System) -> Result<Vec<i128>, NoMemory>
+    ensures count { IfOk result (λ values. length values.items ≡ columns_of system.now) }
+{
+    let columns = system.vars() as usize + system.rows() as usize;
+    let mut values = Vec::with_capacity(alloc, columns)?;
+    for var in 0..system.vars() {
+        let (low, _high) = system.range(var);
+        values.push(low)?;
+    }
+    for _row in 0..system.rows() {
+        values.push(0)?;
+    }
+    Ok(values)
+}
