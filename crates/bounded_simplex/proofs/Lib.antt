@@ -10,3 +10,4 @@ pub mod WithinLaws
 pub mod EachLaws
 pub mod PointLaws
 pub mod StepLaws
+pub mod RatioLaws

@@ -204,7 +204,7 @@ meets_all [] values apart = record {
 meets_all (row ∷ rows) values apart = meets_more row rows values apart (meets_all rows values (apart_rest row rows apart))
 
 -- the basic column's number over the denominator is its equation's numerator over its own
-value_of : (system : System) (rows : List Equation) (values : List ℤ) (denominator : ℤ) (number : ℕ → ℤ) → TableauOf system rows → IsKeptPoint system rows values denominator number
+pub value_of : (system : System) (rows : List Equation) (values : List ℤ) (denominator : ℤ) (number : ℕ → ℤ) → TableauOf system rows → IsKeptPoint system rows values denominator number
     → (k : ℕ) (row : Equation) → k < length rows → row ≡ get_or rows k row → row.denominator *ℤ number row.basic ≡ denominator *ℤ numerator_of values row
 value_of system rows values denominator number of kept k row within is =
     let holds : Satisfies number row = subst (Satisfies number) (sym is) ((of.same_solutions number).0 kept.solves k row within) in

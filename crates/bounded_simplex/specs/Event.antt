@@ -8,7 +8,7 @@ use Rattle.mix_system.specs.declared.literal.Term.{Term}
 use Rattle.mix_system.specs.Row.{number_at}
 use Rattle.tableau_rows.specs.declared.equation.Equation.{Equation}
 use Rattle.tableau_rows.specs.Turning.{others, IsSumStep}
-use Rattle.bounded_simplex.specs.InForce.{BoundChanges}
+use Rattle.bounded_simplex.specs.InForce.{BoundChanges, in_force}
 use Rattle.bounded_simplex.specs.Pivot.{IsPivotExcess}
 use Rattle.bounded_simplex.specs.Refutation.{bound_on}
 use Rattle.bounded_simplex.specs.Terms.{term_of}
@@ -20,11 +20,6 @@ use Rattle.bounded_simplex.specs.declared.excess.TableauExcess.{TableauExcess}
 abbrev pub basic_term : BoundChanges → Equation → Term
 basic_term bounds equation = term_of (length bounds.system.ranges) equation.basic
 
--- a step of the sum that gives the value of a basic term with a bound
-pub record IsValueStep (bounds : BoundChanges) (values : List ℤ) (equation : Equation) (excess : Excess) : Type 0 where
-  pub bounded : IsSome (bound_on bounds equation.basic Ge) ⊎ IsSome (bound_on bounds equation.basic Le)
-  pub step : IsSumStep (number_at values) (others equation.basic equation.entries.items) excess
-
 -- the denominator times a bound in force on the basic term
 pub record IsCompareStep (bounds : BoundChanges) (equation : Equation) (bound : ℤ) (excess : Excess) : Type 0 where
   pub bounded : (bound_on bounds equation.basic Ge ≡ Some bound) ⊎ (bound_on bounds equation.basic Le ≡ Some bound)
@@ -33,7 +28,7 @@ pub record IsCompareStep (bounds : BoundChanges) (equation : Equation) (bound : 
 -- what an equation forms at a place
 abbrev pub IsFormedAt : BoundChanges → List ℤ → Equation → Place → Excess → Type 0
 IsFormedAt bounds values equation (Value basic) excess =
-    (basic ≡ basic_term bounds equation) × IsValueStep bounds values equation excess
+    (basic ≡ basic_term bounds equation) × IsSumStep (number_at values) (others equation.basic equation.entries.items) excess
 IsFormedAt bounds values equation (Compare basic bound) excess =
     (basic ≡ basic_term bounds equation) × IsCompareStep bounds equation bound excess
 IsFormedAt bounds values equation (Combine basic) excess = basic ≡ basic_term bounds equation
@@ -58,3 +53,8 @@ pub record IsOfPivot (bounds : BoundChanges) (rows : List Equation) (fault : Tab
 pub record IsEvent (bounds : BoundChanges) (rows : List Equation) (values : List ℤ) (fault : TableauExcess) : Type 0 where
   pub formed : IsOfEquation bounds rows values fault ⊎ IsOfPivot bounds rows fault
   pub overflows : Overflows fault.excess
+
+-- a basic term whose value is formed has a bound in force
+abbrev pub IsOfBounded : BoundChanges → Place → Type 0
+IsOfBounded bounds (Value basic) = IsSome (in_force bounds basic Ge) ⊎ IsSome (in_force bounds basic Le)
+IsOfBounded bounds _ = Unit {0}

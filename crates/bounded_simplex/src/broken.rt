@@ -3,7 +3,7 @@ ghost use Rattle.mix_system.specs.Lit.{IsWithin};
 ghost use Rattle.wx_num.specs.Excess.{Overflows};
 ghost use Rattle.tableau_rows.specs.declared.equation.Equation.{Equation as AnEquation};
 ghost use Rattle.bounded_simplex.specs.Broken.{IsBroken, IsProduct, bound_of};
-ghost use Rattle.bounded_simplex.specs.Event.{IsFormedAt, IsOfEquation};
+ghost use Rattle.bounded_simplex.specs.Event.{IsFormedAt, IsOfBounded, IsOfEquation};
 ghost use Rattle.bounded_simplex.specs.Point.{Admits, Keeps as KeepsBound};
 ghost use Rattle.bounded_simplex.specs.Refutation.{columns_of, bound_on};
 ghost use Rattle.bounded_simplex.specs.TableauOf.{AreWithin};
@@ -33,6 +33,7 @@ pub(crate) fn first_broken(
         (All (λ equation. (side : Side) → KeepsBound bounds.now values.now equation side) rows.now)) }
     ensures broken { IfOk result (λ found. IfSome found (IsBroken bounds.now rows.now values.now)) }
     ensures formed { IfErr result (IsOfEquation bounds.now rows.now values.now) }
+    ensures bounded { IfErr result (λ fault. IsOfBounded bounds.now fault.place) }
     ensures overflows { IfErr result (λ fault. Overflows fault.excess) }
 {
     let mut found = None;
@@ -78,6 +79,7 @@ fn broken_at(
         ((d : AnEquation) (side : Side) → KeepsBound bounds.now values.now (slice_index_or rows.now at d) side)) }
     ensures broken { IfOk result (λ found. IfSome found (IsBroken bounds.now rows.now values.now)) }
     ensures formed { IfErr result (IsOfEquation bounds.now rows.now values.now) }
+    ensures bounded { IfErr result (λ fault. IsOfBounded bounds.now fault.place) }
     ensures overflows { IfErr result (λ fault. Overflows fault.excess) }
 {
     let equation = &rows[at];
@@ -107,6 +109,7 @@ fn broken_side(
         (λ side. ¬ KeepsBound bounds.now values.now equation.now side)) }
     ensures formed { IfErr result (λ fault.
         IsFormedAt bounds.now values.now equation.now fault.place fault.excess) }
+    ensures bounded { IfErr result (λ fault. IsOfBounded bounds.now fault.place) }
     ensures overflows { IfErr result (λ fault. Overflows fault.excess) }
 {
     let basic = bounds.term_at(equation.basic);

@@ -8,15 +8,20 @@ mod entering;
 mod excess;
 mod laws;
 mod mending;
+mod ratio;
 mod refutation;
 mod settle;
 mod simplex;
 mod tableau;
+#[cfg(test)]
+mod tests;
+mod value;
 
 pub use bounds::{Bounds, Mark};
 pub use check::Check;
 pub use excess::{Place, TableauExcess};
 pub use laws::equations_cancel_out;
+pub use ratio::Ratio;
 pub use refutation::{contradiction, refute};
 pub use simplex::Simplex;
 pub use tableau::{PivotExcess, Tableau};

@@ -5,7 +5,7 @@ ghost use Rattle.tableau_rows.specs.Substitution.{taken};
 ghost use Rattle.tableau_rows.specs.declared.equation.Equation.{Equation as AnEquation};
 ghost use Rattle.bounded_simplex.specs.Answer.{Answers, IsSpent, is_point};
 ghost use Rattle.bounded_simplex.specs.Broken.{IsBroken, side_of};
-ghost use Rattle.bounded_simplex.specs.Event.{IsEvent};
+ghost use Rattle.bounded_simplex.specs.Event.{IsEvent, IsOfBounded};
 ghost use Rattle.bounded_simplex.specs.Point.{AreInBounds};
 ghost use Rattle.bounded_simplex.specs.Refutation.{columns_of, IsHindered};
 
@@ -144,6 +144,7 @@ impl Simplex<'_> {
         ensures no_memory { OnErr result (self.new.made ≡ self.old.made) }
         ensures excess { IfOk result (λ found. IfErr found
             (IsEvent self.new.bounds self.new.tableau.rows.items self.new.values.items)) }
+        ensures bounded { IfOk result (λ found. IfErr found (λ fault. IsOfBounded self.new.bounds fault.place)) }
     {
         let basic = self.bounds.term_at(broken.basic);
         let entering = self.bounds.term_at(column);

@@ -47,6 +47,13 @@ impl<'a> Simplex<'a> {
         })
     }
 
+    /// The system.
+    pub fn system(&self) -> &System
+        ensures { result.now ≡ self.now.bounds.system }
+    {
+        self.bounds.system()
+    }
+
     /// How many more changes there is room for.
     pub fn spare(&self) -> u32
         ensures count { result + length self.now.bounds.changes ≡ self.now.bounds.room }

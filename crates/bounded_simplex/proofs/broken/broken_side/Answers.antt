@@ -18,13 +18,12 @@ returns-then-not-has_bound-clause-none c =
     no_bounds (bound_on bounds equation.basic) equation.denominator (numerator_of c.args.values.now equation) (low ∙ none.0) (high ∙ none.1)
 
 pub returns-in-Err-clause-formed : goal.returns-in-Err-clause-formed
-returns-in-Err-clause-formed c =
-    let bounds = c.args.bounds.now in
-    let equation = c.args.equation.now in
-    let low : bound_on bounds equation.basic Ge ≡ c.end-low.result = rw (← c.term_at-basic.ensures.term) (sym c.end-low.ensures) in
-    let high : bound_on bounds equation.basic Le ≡ c.end-high.result = rw (← c.term_at-basic.ensures.term) (sym c.end-high.ensures) in
+returns-in-Err-clause-formed c = (c.term_at-basic.ensures.term, c.in-Err.ensures.step)
+
+pub returns-in-Err-clause-bounded : goal.returns-in-Err-clause-bounded
+returns-in-Err-clause-bounded c =
     let some : IsSome c.end-low.result ⊎ IsSome c.end-high.result = search rules in
-    (c.term_at-basic.ensures.term, record { bounded = rw (low, high) some; step = c.in-Err.ensures.step })
+    rw (← c.end-low.ensures, ← c.end-high.ensures) some
 
 pub returns-in-Err-broken_bound-clause-formed : goal.returns-in-Err-broken_bound-clause-formed
 returns-in-Err-broken_bound-clause-formed c =

@@ -47,13 +47,15 @@ pub returns-in-Err-clause-answer : goal.returns-in-Err-clause-answer
 returns-in-Err-clause-answer c =
     let s = c.args.self.now in
     let row = c.index-equation.result.now in
-    let over : Overflows c.in-Err.excess = search rules in
-    record {
-      formed = inl (record {
-        at = c.args.broken.at;
-        within = c.requires.broken.within;
-        formed = λ d. c.term_at-basic.ensures.term
-            ∙ ap (λ (x : Equation). term_of (length s.bounds.system.ranges) x.basic) (read_at s.tableau.rows.items c.args.broken.at row d c.requires.broken.within c.index-equation.ensures);
-      });
-      overflows = over;
-    }
+    let over : Overflows c.in-Err.excess = search rules in (
+      record {
+        formed = inl (record {
+          at = c.args.broken.at;
+          within = c.requires.broken.within;
+          formed = λ d. c.term_at-basic.ensures.term
+              ∙ ap (λ (x : Equation). term_of (length s.bounds.system.ranges) x.basic) (read_at s.tableau.rows.items c.args.broken.at row d c.requires.broken.within c.index-equation.ensures);
+        });
+        overflows = over;
+      },
+      tt,
+    )
