@@ -1,0 +1,4 @@
+mod AddLaws
+mod CombinedLaws
+mod SettleLaws
+mod StepLaws
