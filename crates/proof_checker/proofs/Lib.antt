@@ -1,0 +1,2 @@
+mod OneVerdictLaws
+mod ProofLaws

@@ -1,0 +1,8 @@
+//! The answer to the text of a proof, by its lines: whether it is valid, and if not, which line fails first and why.
+#![tactic(auto)]
+
+mod laws;
+mod verdict;
+
+pub use laws::{checked_texts_bound, texts_have_one_verdict, valid_texts_have_a_proof};
+pub use verdict::{Reason, Verdict};
