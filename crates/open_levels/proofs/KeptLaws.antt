@@ -1,0 +1,52 @@
+-- Levels stay kept where a step ends on the last one, and where one opens.
+use Rattle.std.proofs.Common.{◌≡◌, ℤ, pos, ◌+ℤ◌, List, [], ◌∷◌, ◌++◌, length, FitsSigned, sym, subst, All}
+use Rattle.std.specs.Int.{w128}
+use Rattle.std.proofs.lemmas.List.Elements.{All-nil, All-cons, All-push}
+use Rattle.mix_system.specs.declared.literal.Term.{Term}
+use Rattle.mix_system.specs.System.{System, Exists}
+use Rattle.mix_system.specs.Bounds.{unit_bounds}
+use Rattle.proof_term.specs.declared.proof.Goal.{Goal}
+use Rattle.proof_term.specs.declared.proof.Goal.TheVariants.{Below}
+use Rattle.proof_term.specs.Levels.{box_of}
+use Rattle.proof_term.specs.Steps.{NamesTerm}
+use Rattle.box_check.specs.Bounds.{IsOver, Stands}
+use Rattle.open_levels.specs.declared.level.EndedStep.{EndedStep}
+use Rattle.open_levels.specs.declared.level.OpenLevel.{OpenLevel}
+use Rattle.open_levels.specs.declared.levels.OpenLevels.{OpenLevels}
+use Rattle.open_levels.specs.Adds.{Adds}
+use Rattle.open_levels.specs.Kept.{levels_of, GoalFits, IsLevel, AreLevels}
+use Rattle.open_levels.proofs.AddsLaws.{Stands-same}
+use Rattle.open_levels.proofs.LevelLaws.{box_with_step}
+
+abbrev HasTerms : System → EndedStep → Type 0
+HasTerms system step = All (NamesTerm system) step.clause
+
+pub levels_with_step : (system : System) (cost : Term) (old new : OpenLevels) (step : EndedStep) → AreLevels system cost old → All (NamesTerm system) step.clause
+    → new.last.goal ≡ old.last.goal → new.last.ended.items ≡ old.last.ended.items ++ step ∷ [] → new.enclosing.items ≡ old.enclosing.items
+    → Adds (unit_bounds (step.clause ∷ [])) old.bounds new.bounds → IsOver (length system.ranges) (length system.rows) new.bounds → AreLevels system cost new
+levels_with_step system cost old new step kept named goal_is ended_is enclosing_is adds over =
+    let stands : Stands new.bounds (box_of system cost (levels_of new.last old.enclosing.items)) =
+    Stands-same new.bounds (unit_bounds (step.clause ∷ []) ++ box_of system cost (levels_of old.last old.enclosing.items)) (box_of system cost (levels_of new.last old.enclosing.items))
+    (box_with_step system cost old.last new.last old.enclosing.items step goal_is ended_is) (adds.stands (box_of system cost (levels_of old.last old.enclosing.items)) kept.stands) in
+    record {
+      last = record {
+        named = subst (λ (steps : List EndedStep). All (HasTerms system) steps) (sym ended_is) (All-push (HasTerms system) old.last.ended.items step kept.last.named named);
+        goal = subst (λ (g : Goal). GoalFits system g) (sym goal_is) kept.last.goal;
+      };
+      enclosing = subst (λ (levels : List OpenLevel). All (IsLevel system) levels) (sym enclosing_is) kept.enclosing;
+      over = over;
+      stands = subst (λ (levels : List OpenLevel). Stands new.bounds (box_of system cost (levels_of new.last levels))) (sym enclosing_is) stands;
+    }
+
+pub levels_entered : (system : System) (cost : Term) (old new : OpenLevels) (term : Term) (bound : ℤ) → AreLevels system cost old → Exists (length system.ranges) (length system.rows) term
+    → FitsSigned w128 (bound +ℤ pos 1) → new.last.goal ≡ Below term bound → new.last.ended.items ≡ [] → new.enclosing.items ≡ old.last ∷ old.enclosing.items
+    → IsOver (length system.ranges) (length system.rows) new.bounds → Stands new.bounds (box_of system cost (levels_of new.last new.enclosing.items)) → AreLevels system cost new
+levels_entered system cost old new term bound kept exists fits goal_is ended_is enclosing_is over stands = record {
+  last = record {
+    named = subst (λ (steps : List EndedStep). All (HasTerms system) steps) (sym ended_is) (All-nil (HasTerms system));
+    goal = subst (λ (g : Goal). GoalFits system g) (sym goal_is) (exists, fits);
+  };
+  enclosing = subst (λ (levels : List OpenLevel). All (IsLevel system) levels) (sym enclosing_is) (All-cons (IsLevel system) old.last old.enclosing.items kept.last kept.enclosing);
+  over = over;
+  stands = stands;
+}

@@ -1,0 +1,4 @@
+mod AddsLaws
+mod KeptLaws
+mod LevelLaws
+mod ShownLaws

@@ -1,0 +1,14 @@
+use Rattle.std.proofs.Common.{◌≡◌, to_z, of_z, ap}
+use Rattle.std.specs.Int.{w128}
+use Rattle.std.proofs.lemmas.Int.{to_z-of_z}
+use Rattle.proof_term.specs.declared.proof.Goal.TheVariants.{Below}
+use Rattle.open_levels.proofs.KeptLaws.{levels_entered}
+use Rattle.open_levels.proofs.levels.OpenLevels.entered.Goals as goal
+
+pub returns-clause-kept : goal.returns-clause-kept
+returns-clause-kept c =
+    let fits = c.ranges.bound in
+    let same : to_z w128 (of_z w128 c.args.bound) ≡ c.args.bound = simp to_z-of_z in
+    let stands = rw c.as_slice.ensures.value at c.in_ok-bounds.ensures.stands in
+    levels_entered c.args.system.now c.args.cost c.args.self _ c.args.term c.args.bound c.requires.kept c.requires.exists c.requires.fits (ap (Below c.args.term) same)
+    c.new.ensures.items c.in_ok-insert.ensures.items c.in_ok-bounds.ensures.over stands

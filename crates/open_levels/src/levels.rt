@@ -1,0 +1,124 @@
+ghost use Rattle.std.specs.Prelude.{◌≡◌, ◌+◌, ◌+ℤ◌, ◌<◌, [], pos, length, map, IfOk, IsTrue, All, FitsSigned, true};
+ghost use Rattle.std.specs.Int.{w128};
+ghost use Rattle.mix_system.specs.System.{Exists};
+ghost use Rattle.proof_term.specs.Steps.{NamesTerm};
+ghost use Rattle.proof_term.specs.Valid.{at_start, has_ended, after_clause, after_enter, closed};
+ghost use Rattle.open_levels.specs.Kept.{level_of, stage_of, AreLevels, GoalFits};
+
+use crate::filling::{box_of, put_unit};
+use crate::{EndedStep, OpenLevel};
+use box_check::Bounds;
+use mix_system::{Lit, Lits, Side, System, Term};
+use proof_term::Goal;
+use std::alloc::Global;
+use wx_base::NoMemory;
+
+/// The open levels of a proof, and the bounds in force on the last of them.
+#[derive(Debug, Drop)]
+pub struct OpenLevels {
+    /// The number of the next step that ends.
+    pub next: u64,
+    pub last: OpenLevel,
+    /// The levels around the last one, the innermost first.
+    pub enclosing: Vec<OpenLevel>,
+    pub bounds: Bounds,
+}
+
+impl OpenLevels {
+    /// The first level of a proof with that goal.
+    pub fn new(
+        alloc: Global,
+        system: &System,
+        cost: Term,
+        goal: Goal,
+    ) -> Result<OpenLevels, NoMemory>
+        requires cost { Exists (length system.now.ranges) (length system.now.rows) cost }
+        requires fits { GoalFits system.now goal }
+        ensures stage { IfOk result (λ levels. stage_of levels ≡ at_start system.now goal) }
+        ensures kept { IfOk result (AreLevels system.now cost) }
+    {
+        let last = OpenLevel {
+            goal,
+            ended: Vec::new(alloc),
+        };
+        let enclosing = Vec::new(alloc);
+        let bounds = box_of(alloc, system, cost, &last, enclosing.as_slice())?;
+        Ok(OpenLevels {
+            next: system.clauses() as u64,
+            last,
+            enclosing,
+            bounds,
+        })
+    }
+
+    /// The levels after a lemma or a theory with that clause has ended on the last one.
+    pub fn with_clause(
+        self,
+        system: &System,
+        cost: Term,
+        clause: Lits,
+    ) -> Result<OpenLevels, NoMemory>
+        requires kept { AreLevels system.now cost self }
+        requires named { All (NamesTerm system.now) clause }
+        ensures stage { IfOk result (λ levels. stage_of levels ≡ after_clause (stage_of self) clause) }
+        ensures kept { IfOk result (AreLevels system.now cost) }
+    {
+        let OpenLevels {
+            next,
+            mut last,
+            enclosing,
+            mut bounds,
+        } = self;
+        let Some(later) = next.checked_add(1) else {
+            return Err(NoMemory);
+        };
+        put_unit(&mut bounds, system, clause.items())?;
+        last.ended.push(EndedStep {
+            number: next,
+            clause,
+            is_cut: false,
+        })?;
+        Ok(OpenLevels {
+            next: later,
+            last,
+            enclosing,
+            bounds,
+        })
+    }
+
+    /// The levels after one was opened that proves that the term is at most the bound.
+    pub fn entered(
+        self,
+        alloc: Global,
+        system: &System,
+        cost: Term,
+        term: Term,
+        bound: i128,
+    ) -> Result<OpenLevels, NoMemory>
+        requires kept { AreLevels system.now cost self }
+        requires cost { Exists (length system.now.ranges) (length system.now.rows) cost }
+        requires exists { Exists (length system.now.ranges) (length system.now.rows) term }
+        requires fits { FitsSigned w128 (bound +ℤ pos 1) }
+        ensures stage { IfOk result (λ levels. stage_of levels ≡ after_enter (stage_of self) term bound) }
+        ensures kept { IfOk result (AreLevels system.now cost) }
+    {
+        let OpenLevels {
+            next,
+            last,
+            mut enclosing,
+            ..
+        } = self;
+        enclosing.insert(0, last)?;
+        let last = OpenLevel {
+            goal: Goal::Below { term, bound },
+            ended: Vec::new(alloc),
+        };
+        let bounds = box_of(alloc, system, cost, &last, enclosing.as_slice())?;
+        Ok(OpenLevels {
+            next,
+            last,
+            enclosing,
+            bounds,
+        })
+    }
+}
