@@ -1,6 +1,10 @@
+mod AnswerLaws
 mod CostLaws
 mod CursorLaws
+mod DefineLineLaws
 mod DifferentLaws
+mod FileLineLaws
+mod FinderLaws
 mod KnownLaws
 mod LineLaws
 mod LowerLaws

@@ -1,0 +1,167 @@
+-- The first line of a text, and where lines begin.
+use Rattle.std.proofs.Common.{◌≡◌, ℕ, zero, suc, ◌+◌, ◌-◌, ◌<◌, ◌≤◌, Bool, true, false, not, cond, eqb, List, [], ◌∷◌, length, take, drop, refl, sym, ap, ◌∙◌, arith}
+use Rattle.std.specs.List.{prefix_len}
+use Rattle.std.proofs.lemmas.Bool.{eqb-true}
+use Rattle.std.proofs.lemmas.List.{drop-drop, length-drop, drop_all, length-take-le}
+use Rattle.ll_reader.specs.declared.lines.LineKind.{LineKind}
+use Rattle.ll_reader.specs.FileLines.{in_front, lines, place, is_inside, line_len, is_of, count_before, IsAt, StandBefore}
+
+-- ---- the first line
+
+-- its length by the count of the bytes before the first LF
+len_before_end : (bytes : List ℕ) → prefix_len is_inside bytes < length bytes → prefix_len is_inside bytes + 1 ≡ line_len bytes
+unfolding line_len
+len_before_end [] some = absurd (omega arith)
+len_before_end (b ∷ rest) some = go (eqb b 10) (len_before_end rest) some
+  where
+    go : (t : Bool) → (prefix_len is_inside rest < length rest → prefix_len is_inside rest + 1 ≡ line_len rest) → cond (not t) (1 + prefix_len is_inside rest) 0 < suc (length rest)
+        → cond (not t) (1 + prefix_len is_inside rest) 0 + 1 ≡ cond t 1 (suc (line_len rest))
+    go true ih fits = refl
+    go false ih fits = let e = ih (omega arith) in omega (arith, e)
+
+len_to_end : (bytes : List ℕ) → length bytes ≤ prefix_len is_inside bytes → length bytes ≡ line_len bytes
+unfolding line_len
+len_to_end [] all = refl
+len_to_end (b ∷ rest) all = go (eqb b 10) (len_to_end rest) all
+  where
+    go : (t : Bool) → (length rest ≤ prefix_len is_inside rest → length rest ≡ line_len rest) → suc (length rest) ≤ cond (not t) (1 + prefix_len is_inside rest) 0
+        → suc (length rest) ≡ cond t 1 (suc (line_len rest))
+    go true ih fits = absurd (omega arith)
+    go false ih fits = ap suc (ih (omega arith))
+
+module _ (bytes : List ℕ) (inside : ℕ) (inside_is : inside ≡ prefix_len is_inside bytes) where
+  pub len_with_end : inside < length bytes → inside + 1 ≡ line_len bytes
+  len_with_end fits = rw inside_is (len_before_end bytes (rw inside_is at fits))
+
+  pub len_without_end : length bytes ≤ inside → length bytes ≡ line_len bytes
+  len_without_end all = len_to_end bytes (rw inside_is at all)
+
+pub len_within : (bytes : List ℕ) → line_len bytes ≤ length bytes
+unfolding line_len
+len_within [] = omega arith
+len_within (b ∷ rest) = go (eqb b 10) (len_within rest)
+  where
+    go : (t : Bool) → line_len rest ≤ length rest → cond t 1 (suc (line_len rest)) ≤ suc (length rest)
+    go true ih = omega arith
+    go false ih = omega arith
+
+pub len_some : (bytes : List ℕ) → 0 < length bytes → 0 < line_len bytes
+unfolding line_len
+len_some [] some = absurd (omega arith)
+len_some (b ∷ rest) some = go (eqb b 10)
+  where
+    go : (t : Bool) → 0 < cond t 1 (suc (line_len rest))
+    go true = omega arith
+    go false = omega arith
+
+abbrev Begins : List ℕ → Type 0
+Begins bytes = lines bytes ≡ take (line_len bytes) bytes ∷ lines (drop (line_len bytes) bytes)
+
+-- a line of one byte, and one with a byte more in front
+last_line : (b : ℕ) → (t : Bool) → eqb b 10 ≡ t → Begins (b ∷ [])
+unfolding lines line_len
+last_line b true e = rw e (rw (eqb-true b 10 e) refl)
+last_line b false e = rw e refl
+
+longer_line : (b c : ℕ) (rest : List ℕ) → Begins (c ∷ rest) → (t : Bool) → eqb b 10 ≡ t → Begins (b ∷ c ∷ rest)
+unfolding lines line_len
+longer_line b c rest ih true e = rw e (rw (eqb-true b 10 e) refl)
+longer_line b c rest ih false e = rw e (ap (in_front b) ih)
+
+-- the first line and those behind it
+pub lines_begin : (bytes : List ℕ) → 0 < length bytes → Begins bytes
+lines_begin [] some = absurd (omega arith)
+lines_begin (b ∷ []) some = last_line b (eqb b 10) refl
+lines_begin (b ∷ c ∷ rest) some = longer_line b c rest (lines_begin (c ∷ rest) (omega arith)) (eqb b 10) refl
+
+-- ---- where lines begin
+
+place_none : (n : ℕ) → place [] n ≡ 0
+unfolding place
+place_none zero = refl
+place_none (suc n) = refl
+
+place_more : (ls : List (List ℕ)) (n c : ℕ) → place ls (n + c) ≡ place ls n + place (drop n ls) c
+unfolding place
+place_more ls zero c = let e : zero + c ≡ c = omega arith in rw e (let g : place ls c ≡ 0 + place ls c = omega arith in g)
+place_more [] (suc n) c = rw (place_none (suc n + c), place_none c) refl
+place_more (l ∷ ls) (suc n) c =
+    let e : suc n + c ≡ suc (n + c) = omega arith in
+    let ih = place_more ls n c in
+    rw e (omega (arith, ih))
+
+pub place_grows : (ls : List (List ℕ)) (n m : ℕ) → n ≤ m → place ls n ≤ place ls m
+place_grows ls n m le =
+    let e : n + (m - n) ≡ m = omega arith in
+    let more : place ls m ≡ place ls n + place (drop n ls) (m - n) = ap (place ls) (sym e) ∙ place_more ls n (m - n) in
+    omega (arith, more)
+
+pub at_start : (text : List ℕ) → IsAt text 0 0
+unfolding place
+at_start text = record { place_is = refl; behind = refl; within = omega arith; few = omega arith }
+
+-- lines behind lines
+pub at_more : (text : List ℕ) (n at c len : ℕ) → IsAt text n at → IsAt (drop at text) c len → IsAt text (n + c) (at + len)
+at_more text n at c len first second = record {
+  place_is = ap (λ (x : ℕ). x + len) first.place_is ∙ ap (λ (x : ℕ). place (lines text) n + x) (second.place_is ∙ ap (λ (ls : List (List ℕ)). place ls c) first.behind) ∙ sym (place_more (lines text) n c);
+  behind = ap lines (sym (drop-drop len at text)) ∙ second.behind ∙ ap (drop c) first.behind ∙ drop-drop c n (lines text);
+  within = let w = second.within in let v = first.within in let l = length-drop at text in omega arith;
+  few = let w = second.few in let v = first.few in omega arith;
+}
+
+-- the first line
+pub at_first : (bytes : List ℕ) → 0 < length bytes → IsAt bytes 1 (line_len bytes)
+unfolding place
+at_first bytes some =
+    let begins = lines_begin bytes some in
+    let within = len_within bytes in
+    let more = len_some bytes some in
+    record {
+      place_is = rw begins (omega (arith, length-take-le (line_len bytes) bytes within));
+      behind = rw begins refl;
+      within = within;
+      few = omega arith;
+    }
+
+-- ---- the lines before the first of a kind
+
+pub record ArePassed (kind : LineKind) (bytes : List ℕ) (lines_ len : ℕ) : Type 0 where
+  pub ends : IsAt bytes lines_ len
+  pub goes_on : lines_ + count_before kind (lines (drop len bytes)) ≡ count_before kind (lines bytes)
+
+pub none_passed : (kind : LineKind) (bytes : List ℕ) → ArePassed kind bytes 0 0
+none_passed kind bytes = record { ends = at_start bytes; goes_on = omega arith }
+
+module _ (kind : LineKind) (bytes : List ℕ) (n len : ℕ) (passed : ArePassed kind bytes n len) (rest line : List ℕ) (k : ℕ)
+    (rest_is : rest ≡ drop len bytes) (k_is : k ≡ line_len rest) (line_is : line ≡ take k rest) (more : len < length bytes) where
+  some_left : 0 < length rest
+  some_left = omega (arith, ap length rest_is, length-drop len bytes)
+
+  first_is : lines (drop len bytes) ≡ line ∷ lines (drop k (drop len bytes))
+  first_is = rw (line_is, k_is, ← rest_is) (lines_begin rest some_left)
+
+  pub pass : is_of kind line ≡ false → ArePassed kind bytes (n + 1) (len + k)
+  unfolding count_before
+  pass other =
+      let one : IsAt (drop len bytes) 1 k = rw (k_is, ← rest_is) (at_first rest some_left) in
+      let goes_on = passed.goes_on in
+      let counted : count_before kind (lines (drop len bytes)) ≡ 1 + count_before kind (lines (drop (len + k) bytes)) =
+      rw (first_is, other) (ap (λ (x : List ℕ). 1 + count_before kind (lines x)) (drop-drop k len bytes)) in
+      record { ends = at_more bytes n len 1 k passed.ends one; goes_on = omega arith }
+
+  pub stop : is_of kind line ≡ true → StandBefore kind bytes (record { len = len; lines = n })
+  unfolding count_before
+  stop here =
+      let none : count_before kind (lines (drop len bytes)) ≡ 0 = rw (first_is, here) refl in
+      let goes_on = passed.goes_on in
+      record { count = omega arith; ends = passed.ends }
+
+  pub smaller : length bytes - (len + k) < length bytes - len
+  smaller = let some = len_some rest some_left in omega arith
+
+pub passed_all : (kind : LineKind) (bytes : List ℕ) (n len : ℕ) → ArePassed kind bytes n len → length bytes ≤ len → StandBefore kind bytes (record { len = len; lines = n })
+unfolding count_before lines
+passed_all kind bytes n len passed all =
+    let none : count_before kind (lines (drop len bytes)) ≡ 0 = ap (λ (x : List ℕ). count_before kind (lines x)) (drop_all len bytes all) in
+    let goes_on = passed.goes_on in
+    record { count = omega arith; ends = passed.ends }
