@@ -87,7 +87,7 @@ none_left : {A : Type 0} (Y : List Tok → Read A) (q : Read A) (l : List Tok) �
 none_left Y q [] b = refl
 none_left Y q (t ∷ rest) (front, is, same) = absurd (omega (arith, ap length is, length-append front (t ∷ rest)))
 
-first_or : Tok → List Tok → Tok
+abbrev pub first_or : Tok → List Tok → Tok
 first_or t [] = t
 first_or t (u ∷ l) = u
 
@@ -97,7 +97,6 @@ module _ {A B : Type 0} (X : List Tok → Read A) (f : A → List Tok → Read B
 
   goes_on : (x : A) (t : Tok) (rest front : List Tok) → ((others : List Tok) → X (front ++ t ∷ others) ≡ Done x (t ∷ others)) → (front2 : List Tok) (u : Tok) (rest2 : List Tok) → t ∷ rest ≡ front2 ++ u ∷ rest2
       → (others : List Tok) → X (front ++ (front2 ++ u ∷ others)) ≡ Done x (front2 ++ u ∷ others)
-  unfolding first_or
   goes_on x t rest front same [] u rest2 is others = subst (λ t. X (front ++ t ∷ others) ≡ Done x (t ∷ others)) (ap (first_or t) is) (same others)
   goes_on x t rest front same (a ∷ front2) u rest2 is others = subst (λ t. X (front ++ t ∷ (front2 ++ u ∷ others)) ≡ Done x (t ∷ (front2 ++ u ∷ others))) (ap (first_or t) is) (same (front2 ++ u ∷ others))
 

@@ -1,5 +1,5 @@
 -- What an answer says of the trees that the tokens spell.
-use Rattle.std.proofs.Common.{◌≡◌, List, [], ◌∷◌, ◌++◌, Result, Ok, Err, IfOk, IfErr, refl, sym, ap, ◌∙◌, subst}
+use Rattle.std.proofs.Common.{◌≡◌, ◌≤◌, suc, Bool, true, false, leb, List, [], ◌∷◌, ◌++◌, length, drop, Result, Ok, Err, IfOk, refl, sym, ap, ◌∙◌, subst, arith, leb-true, leb-false, length-append, append_assoc}
 use Rattle.ll_tree.specs.declared.func.Func.{Func}
 use Rattle.ll_grammar.specs.declared.stop.Stop.{Stop}
 use Rattle.ll_grammar.specs.declared.stop.Stop.TheVariants as stop
@@ -8,9 +8,9 @@ use Rattle.ll_grammar.specs.Tokens.{Tok, AreNamed}
 use Rattle.ll_grammar.specs.Reading.{Read, Done, Fault, RanOut, Gives}
 use Rattle.ll_grammar.specs.Header.{function}
 use Rattle.ll_grammar.specs.Spells.{SpellsFunction}
-use Rattle.ll_grammar.specs.Sentences.{IsAnswerFor, StopsAt, Stops}
+use Rattle.ll_grammar.specs.Sentences.{IsAnswerFor, HasNoFault, StopsAt, Stops}
 use Rattle.ll_grammar.specs.declared.stop.Refusal.{Refusal}
-use Rattle.ll_grammar.proofs.EarlyLaws.{Early}
+use Rattle.ll_grammar.proofs.EarlyLaws.{Early, left_of, first_or}
 use Rattle.ll_grammar.proofs.EarlyHeaderLaws.{early_function}
 use Rattle.ll_grammar.proofs.DoneLaws.{Holds, when_done}
 use Rattle.ll_grammar.proofs.HeaderLaws.{function_sound}
@@ -37,6 +37,50 @@ only_by (Err (stop.Refused r)) left ts e func spells = absurd (done_no_fault fun
 only_by (Err stop.RanOut) left ts e func spells = absurd (done_no_fault func [] RanOut (sym (function_reads func ts spells) ∙ e) tt)
 only_by (Err stop.NoMemory) left ts e func spells = refl
 
+-- two ways to part one list
+parted : (xs ys front : List Tok) (t : Tok) (rest : List Tok) → xs ++ ys ≡ front ++ t ∷ rest → length ys ≤ length rest → (middle : List Tok) × (xs ≡ front ++ t ∷ middle)
+parted [] ys front t rest is few = absurd (omega (arith, ap length is, length-append front (t ∷ rest)))
+parted (x ∷ xs) ys [] t rest is few = (xs, ap (λ (u : Tok). u ∷ xs) (ap (first_or t) is))
+parted (x ∷ xs) ys (u ∷ front) t rest is few =
+    let w = parted xs ys front t rest (ap (drop 1) is) few in
+    (w.0, ap (λ (v : Tok). v ∷ xs) (ap (first_or x) is) ∙ ap (λ (l : List Tok). u ∷ l) w.1)
+
+abbrev RanOr : {A : Type 0} → Read A → Type 0
+RanOr RanOut = Unit {0}
+RanOr (Done x a) = Unit {0}
+RanOr (Fault fault left) = ⊥
+
+ran_no_fault : {A : Type 0} (r : Read A) (fault : Refusal) (left : List Tok) → r ≡ RanOut → r ≡ Fault fault left → ⊥
+ran_no_fault r fault left ran e = subst (λ r. RanOr r) (sym ran ∙ e) tt
+
+no_fault : (ts more left : List Tok) (fault : Refusal) → function ts ≡ RanOut → Early function (ts ++ more) (Fault fault left) → length left ≤ length more
+no_fault ts more [] fault ran early = omega arith
+no_fault ts more (t ∷ rest) fault ran (stands, (front, is, same)) = go (leb (suc (length rest)) (length more)) refl
+  where
+    go : (b : Bool) → leb (suc (length rest)) (length more) ≡ b → suc (length rest) ≤ length more
+    go true fits = leb-true _ _ fits
+    go false past =
+        let few : length more ≤ length rest = omega (arith, leb-false (suc (length rest)) (length more) past) in
+        let w = parted ts more front t rest is few in
+        absurd (ran_no_fault (function ts) fault (t ∷ w.0) ran (ap function w.1 ∙ same w.0))
+
+-- no fault stands before a fault
+fault_first : (fault : Refusal) (front : List Tok) (t : Tok) (rest : List Tok) → function (front ++ t ∷ rest) ≡ Fault fault (t ∷ rest) → HasNoFault front
+fault_first fault front t rest e more left other stops = go left (subst (λ q. Early function (front ++ more) q) stops (early_function.early (front ++ more)))
+  where
+    go : (left : List Tok) → Early function (front ++ more) (Fault other left) → length left ≤ length more
+    go [] early = omega arith
+    go (u ∷ l) (stands, (front2, is, same)) = within (leb (suc (length l)) (length more)) refl
+      where
+        within : (b : Bool) → leb (suc (length l)) (length more) ≡ b → suc (length l) ≤ length more
+        within true fits = leb-true _ _ fits
+        within false past =
+            let few : length more ≤ length l = omega (arith, leb-false (suc (length l)) (length more) past) in
+            let w = parted front more front2 u l is few in
+            let whole : front ++ t ∷ rest ≡ front2 ++ u ∷ (w.0 ++ t ∷ rest) = ap (λ (xs : List Tok). xs ++ t ∷ rest) w.1 ∙ append_assoc front2 (u ∷ w.0) (t ∷ rest) in
+            let both : Fault fault (t ∷ rest) ≡ Fault other (u ∷ (w.0 ++ t ∷ rest)) = sym e ∙ ap function whole ∙ same (w.0 ++ t ∷ rest) in
+            absurd (omega (arith, ap (λ q. length (left_of q)) both, length-append w.0 (t ∷ rest)))
+
 stops_at : (fault : Refusal) (left ts : List Tok) → function ts ≡ Fault fault left → Early function ts (Fault fault left) → StopsAt fault ts left
 stops_at fault [] ts e early = absurd early.0
 stops_at fault (t ∷ rest) ts e (stands, (front, is, same)) = record {
@@ -46,11 +90,16 @@ stops_at fault (t ∷ rest) ts e (stands, (front, is, same)) = record {
   whole = is;
   stands = refl;
   never = λ func others spells. done_no_fault func [] (Fault fault (t ∷ others)) (sym (function_reads func (front ++ t ∷ others) spells) ∙ same others) tt;
+  first = fault_first fault front t rest (ap function (sym is) ∙ e);
   early = same;
 }
 
 pub stops_by : (result : Result Func Stop) (left ts : List Tok) → Gives result left (function ts) → Stops result ts left
 stops_by (Ok f) left ts e = tt
 stops_by (Err (stop.Refused fault)) left ts e = stops_at fault left ts e (subst (λ q. Early function ts q) e (early_function.early ts))
-stops_by (Err stop.RanOut) left ts e = tt
+stops_by (Err stop.RanOut) left ts e = λ more left fault stops. no_fault ts more left fault e (subst (λ q. Early function (ts ++ more) q) stops (early_function.early (ts ++ more)))
 stops_by (Err stop.NoMemory) left ts e = tt
+
+-- tokens spell one tree at most
+pub one_tree : (ts : List Tok) (f g : Func) → SpellsFunction f ts → SpellsFunction g ts → f ≡ g
+one_tree ts f g is also = done_is f g [] [] (sym (function_reads f ts is) ∙ function_reads g ts also)

@@ -1,5 +1,5 @@
 -- What an answer says of the functions that tokens spell.
-use Rattle.std.specs.Prelude.{◌≡◌, List, ◌∷◌, ◌++◌, Result, Ok, Err}
+use Rattle.std.specs.Prelude.{◌≡◌, ◌≤◌, List, ◌∷◌, ◌++◌, length, Result, Ok, Err}
 use Rattle.ll_tree.specs.declared.func.Func.{Func}
 use Rattle.ll_grammar.specs.declared.stop.Refusal.{Refusal}
 use Rattle.ll_grammar.specs.declared.stop.Stop.{Stop}
@@ -14,8 +14,12 @@ abbrev pub IsAnswerFor : Result Func Stop → Func → Type 0
 IsAnswerFor (Ok it) func = it ≡ func
 IsAnswerFor (Err why) func = why ≡ stop.NoMemory
 
--- The fault stands at the first of the tokens left. No tokens that begin with those up to it spell a function, and on all of
--- them reading stops there with this fault.
+-- However the tokens go on, a fault stands behind them.
+abbrev pub HasNoFault : List Tok → Type 0
+HasNoFault tokens = (more left : List Tok) (fault : Refusal) → function (tokens ++ more) ≡ Fault fault left → length left ≤ length more
+
+-- The fault stands at the first of the tokens left, and none before it. No tokens that begin with those up to it spell a
+-- function, and on all of them reading stops there with this fault.
 pub record StopsAt (fault : Refusal) (tokens left : List Tok) : Type 0 where
   pub front : List Tok
   pub token : Tok
@@ -23,9 +27,11 @@ pub record StopsAt (fault : Refusal) (tokens left : List Tok) : Type 0 where
   pub whole : tokens ≡ front ++ token ∷ behind
   pub stands : left ≡ token ∷ behind
   pub never : (func : Func) (others : List Tok) → SpellsFunction func (front ++ token ∷ others) → ⊥
+  pub first : HasNoFault front
   pub early : (others : List Tok) → function (front ++ token ∷ others) ≡ Fault fault (token ∷ others)
 
--- where a token is refused
+-- where a token is refused, or the tokens ended too early
 abbrev pub Stops : Result Func Stop → (tokens left : List Tok) → Type 0
 Stops (Err (stop.Refused fault)) tokens left = StopsAt fault tokens left
+Stops (Err stop.RanOut) tokens left = HasNoFault tokens
 Stops answer tokens left = Unit {0}

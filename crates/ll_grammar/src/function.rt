@@ -25,6 +25,7 @@ pub fn read_function(alloc: Global, cursor: &mut Cursor) -> Result<Func, Stop>
     ensures reads { Gives result cursor.new (function cursor.old) }
     ensures spelled { IfOk result (λ func. SpellsFunction func cursor.old) }
     ensures only { (func : Func) → SpellsFunction func cursor.old → IsAnswerFor result func }
+    ensures one { (f g : Func) → SpellsFunction f cursor.old → SpellsFunction g cursor.old → f ≡ g }
     ensures formed { AreNamed cursor.old → IfOk result IsFormed }
     ensures stops { Stops result cursor.old cursor.new }
 {
