@@ -59,7 +59,7 @@ phis_read (p ∷ more) (suc most) label phis body e ts a c rest few (d, is, ps) 
     as_item : IsStatement (SpellsPhi p) ts d → IsStatement (SpellsItem true (item.Phi p)) ts d
     as_item (lines, pairs, x, y, passes, starts, is, meta) = (lines, pairs, x, y, passes, starts, (refl, is), meta)
 
-block_reads : (b : Block) (ts rest : List Tok) → SpellsBlock b ts rest → mark_at 44 rest ≡ false → block b.label ts ≡ Done b rest
+pub block_reads : (b : Block) (ts rest : List Tok) → SpellsBlock b ts rest → mark_at 44 rest ≡ false → block b.label ts ≡ Done b rest
 unfolding block
 block_reads b ts rest (a, c, ps, are, ends) no_comma = phis_read b.phis (length ts) b.label [] b.body b.end ts a c rest (omega arith) ps are ends no_comma
 
@@ -70,11 +70,11 @@ unfolding mark_at
 blocks_no_comma [] ts here = ap (mark_at 44) here
 blocks_no_comma (b ∷ bs) ts (a, c, label, is, more) = at_mark ts a label.0 label.1 kinds.Label label.2 44
 
-labelled_block_reads : (b : Block) (ts a rest : List Tok) → IsNameOf kinds.Label b.label ts a → SpellsBlock b a rest → mark_at 44 rest ≡ false → labelled_block ts ≡ Done b rest
+pub labelled_block_reads : (b : Block) (ts a rest : List Tok) → IsNameOf kinds.Label b.label ts a → SpellsBlock b a rest → mark_at 44 rest ≡ false → labelled_block ts ≡ Done b rest
 unfolding labelled_block
 labelled_block_reads b ts a rest label is no_comma = then_reads _ _ (name_reads ts a kinds.Label place.BehindEnd b.label label) (block_reads b a rest is no_comma)
 
-blocks_within_reads : (bs : List Block) (most : ℕ) (so_far : List Block) (ts : List Tok) → length ts ≤ most → SpellBlocks bs ts [] → blocks_within most so_far ts ≡ Done (so_far ++ bs) []
+pub blocks_within_reads : (bs : List Block) (most : ℕ) (so_far : List Block) (ts : List Tok) → length ts ≤ most → SpellBlocks bs ts [] → blocks_within most so_far ts ≡ Done (so_far ++ bs) []
 unfolding blocks_within
 blocks_within_reads [] zero so_far ts few here = ap (λ (l : List Tok). Done so_far l) here ∙ ap (λ (bs : List Block). Done bs []) (sym (append-nil so_far))
 blocks_within_reads [] (suc most) so_far ts few here =
@@ -116,7 +116,7 @@ label_starts : (ts rest : List Tok) (name : List ℕ) → IsNameOf kinds.Label n
 unfolding debug_at
 label_starts ts rest name (t, e, k, is) = ap debug_at e ∙ ap (λ k. starts_debug k && t.debug) k
 
-entry_block_reads : (unwritten : List ℕ) (b : Block) (ts rest : List Tok) → SpellsEntryBlock unwritten b ts rest → mark_at 44 rest ≡ false → entry_block unwritten ts ≡ Done b rest
+pub entry_block_reads : (unwritten : List ℕ) (b : Block) (ts rest : List Tok) → SpellsEntryBlock unwritten b ts rest → mark_at 44 rest ≡ false → entry_block unwritten ts ≡ Done b rest
 unfolding entry_block
 entry_block_reads unwritten b ts rest (inl (lines, a, c, passes, label, is)) no_comma =
     let here = passed_reads lines ts a passes (label_starts a c b.label label) in

@@ -24,35 +24,35 @@ use Rattle.ll_grammar.proofs.EarlyFormLaws.{looks_word, looks_mark, looks_kind, 
 
 -- ---- metadata
 
-metadata_settle : (n : ℕ) (ts : List Tok) → length ts ≤ n → metadata_within n ts ≡ metadata_within (suc n) ts
+pub metadata_settle : (n : ℕ) (ts : List Tok) → length ts ≤ n → metadata_within n ts ≡ metadata_within (suc n) ts
 unfolding metadata_within mark_at
 metadata_settle zero [] fits = refl
 metadata_settle zero (t ∷ ts) fits = absurd (omega arith)
 metadata_settle (suc n) ts fits = if_same (mark_at 44 ts) _ _ _ _ (λ _. then_same (metadatum (drop 1 ts)) _ _ (weaken (metadatum_sound (drop 1 ts)) (λ _ a m. then_same (metadatum a) _ _ (weaken (metadatum_sound a) (λ _ b k.
     metadata_settle n b (omega (arith, behind_fits n ts fits, ap length m.1, ap length k.1))))))) (λ _. refl)
 
-early_metadata_within : (n : ℕ) → IsEarly (metadata_within n)
+pub early_metadata_within : (n : ℕ) → IsEarly (metadata_within n)
 unfolding metadata_within
 early_metadata_within zero = early_done (tt {0})
 early_metadata_within (suc n) = early_if (mark_at 44) (λ ts. metadatum (drop 1 ts) >>= λ _ ts. metadatum ts >>= λ _ ts. metadata_within n ts) (λ ts. Done (tt {0}) ts) (looks_mark 44)
     (early_then (λ ts. metadatum (drop 1 ts)) _ (early_behind metadatum early_metadatum) (λ _. early_then _ (λ _. metadata_within n) early_metadatum (λ _. early_metadata_within n)))
     (early_done (tt {0}))
 
-early_metadata : IsEarly metadata
+pub early_metadata : IsEarly metadata
 unfolding metadata
 early_metadata = early_within metadata_within (settles_from _ metadata_settle) early_metadata_within
 
 -- ---- lines that are passed over
 
-looks_debug : Looks debug_at
+pub looks_debug : Looks debug_at
 unfolding debug_at
 looks_debug t a c = refl
 
-looks_line : Looks line_at
+pub looks_line : Looks line_at
 unfolding line_at
 looks_line t a c = refl
 
-early_behind_line : (line : ℕ) → IsEarly (λ ts. Done (tt {0}) (behind_line line ts))
+pub early_behind_line : (line : ℕ) → IsEarly (λ ts. Done (tt {0}) (behind_line line ts))
 early_behind_line line = record { early = λ ts. let w = behind_line_is line ts in go ts w.0 w.1 w.2 (behind_line line ts) refl w.3 }
   where
     go : (ts others : List Tok) → ts ≡ others ++ behind_line line ts → All (λ (o : Tok). o.line ≡ line) others → (l : List Tok) → behind_line line ts ≡ l → LeavesLine line (behind_line line ts)
@@ -69,10 +69,10 @@ early_behind_line line = record { early = λ ts. let w = behind_line_is line ts 
     )
 
 -- a reading that passes over lines, so many at most
-passes_within : ℕ → List Tok → Read Unit
+pub passes_within : ℕ → List Tok → Read Unit
 passes_within n ts = Done (tt {0}) (passed_within n ts)
 
-early_passes_within : (n : ℕ) → IsEarly (passes_within n)
+pub early_passes_within : (n : ℕ) → IsEarly (passes_within n)
 unfolding passes_within passed_within
 early_passes_within zero = early_done (tt {0})
 early_passes_within (suc n) = early_same _ (λ ts. if debug_at ts then Done (line_at ts) (drop 1 ts) >>= (λ line ts. Done (tt {0}) (behind_line line ts) >>= λ _ ts. passes_within n ts) else Done (tt {0}) ts)
@@ -82,7 +82,7 @@ early_passes_within (suc n) = early_same _ (λ ts. if debug_at ts then Done (lin
     (λ line. early_then (λ ts. Done (tt {0}) (behind_line line ts)) (λ _. passes_within n) (early_behind_line line) (λ _. early_passes_within n)))
     (early_done (tt {0})))
 
-passed_settle : (n : ℕ) (ts : List Tok) → length ts ≤ n → passed_within n ts ≡ passed_within (suc n) ts
+pub passed_settle : (n : ℕ) (ts : List Tok) → length ts ≤ n → passed_within n ts ≡ passed_within (suc n) ts
 unfolding passed_within debug_at
 passed_settle zero [] fits = refl
 passed_settle zero (t ∷ ts) fits = absurd (omega arith)
@@ -97,12 +97,12 @@ unfolding passed passes_within
 early_passes = early_within passes_within (settles_from passes_within (λ n ts fits. ap (λ (l : List Tok). Done (tt {0}) l) (passed_settle n ts fits))) early_passes_within
 
 -- behind lines that are passed over
-early_behind_passed : {A : Type 0} (r : List Tok → Read A) → IsEarly r → IsEarly (λ ts. r (passed ts))
+pub early_behind_passed : {A : Type 0} (r : List Tok → Read A) → IsEarly r → IsEarly (λ ts. r (passed ts))
 early_behind_passed r e = early_then (λ ts. Done (tt {0}) (passed ts)) (λ _. r) early_passes (λ _. e)
 
 -- ---- statements
 
-early_assignment : (first : Bool) (r : List ℕ) → IsEarly (assignment first r)
+pub early_assignment : (first : Bool) (r : List ℕ) → IsEarly (assignment first r)
 unfolding assignment
 early_assignment first r = early_then _ _ (early_mark 61) (λ _.
     early_if (λ ts. first && bytes_eq (word_at ts) (codes "phi")) (λ ts. phi r (drop 1 ts) >>= λ p ts. Done (item.Phi p) ts) (λ ts. operation ts >>= λ computed ts. Done (item.Instr (record { name = r; op = computed })) ts)
@@ -110,7 +110,7 @@ early_assignment first r = early_then _ _ (early_mark 61) (λ _.
     (early_then (λ ts. phi r (drop 1 ts)) (λ p ts. Done (item.Phi p) ts) (early_behind (phi r) (early_phi r)) (λ p. early_done (item.Phi p)))
     (early_then operation (λ computed ts. Done (item.Instr (record { name = r; op = computed })) ts) early_operation (λ computed. early_done (item.Instr (record { name = r; op = computed })))))
 
-early_bare_statement : (first : Bool) → IsEarly (bare_statement first)
+pub early_bare_statement : (first : Bool) → IsEarly (bare_statement first)
 unfolding bare_statement
 early_bare_statement first =
     early_if (kind_at kinds.Local) (λ ts. assignment first (name_at ts) (drop 1 ts)) _ (looks_kind kinds.Local) (early_then (λ ts. Done (name_at ts) (drop 1 ts)) (assignment first) (early_taken name_at looks_name) (early_assignment first))
@@ -118,14 +118,14 @@ early_bare_statement first =
     (early_then assume (λ computed ts. Done (item.Instr (record { name = []; op = computed })) ts) early_assume (λ computed. early_done (item.Instr (record { name = []; op = computed }))))
     (early_then terminator (λ e ts. Done (item.End e) ts) early_terminator (λ e. early_done (item.End e))))
 
-early_statement : (first : Bool) → IsEarly (statement first)
+pub early_statement : (first : Bool) → IsEarly (statement first)
 unfolding statement
 early_statement first = early_then (λ ts. bare_statement first (passed ts)) (λ s ts. metadata ts >>= λ _ ts. Done s ts) (early_behind_passed (bare_statement first) (early_bare_statement first))
     (λ s. early_then metadata (λ _ ts. Done s ts) early_metadata (λ _. early_done s))
 
 -- ---- blocks
 
-item_takes : (first : Bool) (it : Item) (ts rest : List Tok) → SpellsItem first it ts rest → Takes ts rest
+pub item_takes : (first : Bool) (it : Item) (ts rest : List Tok) → SpellsItem first it ts rest → Takes ts rest
 item_takes first (item.Phi p) ts rest is = phi_takes p ts rest is.1
 item_takes first (item.Instr i) ts rest is = instr_takes i ts rest is
 item_takes first (item.End e) ts rest is = end_takes e ts rest is
@@ -140,49 +140,49 @@ nothing_starts : (first : Bool) → statement first [] ≡ RanOut
 unfolding statement passed passed_within bare_statement kind_at word_at is_call_word terminator
 nothing_starts first = refl
 
-block_settle : (n : ℕ) (label : List ℕ) (phis : List Phi) (body : List Instr) (ts : List Tok) → length ts ≤ n → block_within n label phis body ts ≡ block_within (suc n) label phis body ts
+pub block_settle : (n : ℕ) (label : List ℕ) (phis : List Phi) (body : List Instr) (ts : List Tok) → length ts ≤ n → block_within n label phis body ts ≡ block_within (suc n) label phis body ts
 unfolding block_within
 block_settle zero label phis body [] fits = sym (ap (λ r. r >>= block_step (block_within zero label) label phis body) (nothing_starts (is_empty body)))
 block_settle zero label phis body (t ∷ ts) fits = absurd (omega arith)
 block_settle (suc n) label phis body ts fits = then_same (statement (is_empty body) ts) _ _ (weaken (statement_sound (is_empty body) ts) (λ it a is.
     step_same n label phis body it a (λ phis body. block_settle n label phis body a (omega (arith, fits, statement_takes (SpellsItem _ it) (item_takes _ it) ts a is)))))
 
-early_step : (more : List Phi → List Instr → List Tok → Read Block) (label : List ℕ) (phis : List Phi) (body : List Instr) (it : Item) → ((phis : List Phi) (body : List Instr) → IsEarly (more phis body)) → IsEarly (λ ts. block_step more label phis body it ts)
+pub early_step : (more : List Phi → List Instr → List Tok → Read Block) (label : List ℕ) (phis : List Phi) (body : List Instr) (it : Item) → ((phis : List Phi) (body : List Instr) → IsEarly (more phis body)) → IsEarly (λ ts. block_step more label phis body it ts)
 early_step more label phis body (item.Phi p) ih = ih (phis ++ p ∷ []) body
 early_step more label phis body (item.Instr i) ih = ih phis (body ++ i ∷ [])
 early_step more label phis body (item.End e) ih = early_done (record { label = label; phis = phis; body = body; end = e })
 
-early_block_within : (n : ℕ) (label : List ℕ) (phis : List Phi) (body : List Instr) → IsEarly (block_within n label phis body)
+pub early_block_within : (n : ℕ) (label : List ℕ) (phis : List Phi) (body : List Instr) → IsEarly (block_within n label phis body)
 unfolding block_within
 early_block_within zero label phis body = early_ran_out
 early_block_within (suc n) label phis body = early_then (statement (is_empty body)) (λ it ts. block_step (block_within n label) label phis body it ts) (early_statement (is_empty body))
     (λ it. early_step (block_within n label) label phis body it (early_block_within n label))
 
-early_block : (label : List ℕ) → IsEarly (block label)
+pub early_block : (label : List ℕ) → IsEarly (block label)
 unfolding block
 early_block label = early_within (λ n. block_within n label [] []) (settles_from _ (λ n ts fits. block_settle n label [] [] ts fits)) (λ n. early_block_within n label [] [])
 
-early_entry_block : (unwritten : List ℕ) → IsEarly (entry_block unwritten)
+pub early_entry_block : (unwritten : List ℕ) → IsEarly (entry_block unwritten)
 unfolding entry_block
 early_entry_block unwritten = early_behind_passed (λ rest. if kind_at kinds.Label rest then block (name_at rest) (drop 1 rest) else block unwritten rest)
     (early_if (kind_at kinds.Label) (λ rest. block (name_at rest) (drop 1 rest)) (block unwritten) (looks_kind kinds.Label)
     (early_then (λ ts. Done (name_at ts) (drop 1 ts)) block (early_taken name_at looks_name) early_block) (early_block unwritten))
 
-early_labelled_block : IsEarly labelled_block
+pub early_labelled_block : IsEarly labelled_block
 unfolding labelled_block
 early_labelled_block = early_then (name kinds.Label place.BehindEnd) block (early_name kinds.Label place.BehindEnd) early_block
 
-blocks_settle : (n : ℕ) (so_far : List Block) (ts : List Tok) → length ts ≤ n → blocks_within n so_far ts ≡ blocks_within (suc n) so_far ts
+pub blocks_settle : (n : ℕ) (so_far : List Block) (ts : List Tok) → length ts ≤ n → blocks_within n so_far ts ≡ blocks_within (suc n) so_far ts
 unfolding blocks_within
 blocks_settle zero so_far [] fits = refl
 blocks_settle zero so_far (t ∷ ts) fits = absurd (omega arith)
 blocks_settle (suc n) so_far ts fits = if_same (is_empty ts) _ _ _ _ (λ _. refl) (λ _. then_same (labelled_block ts) _ _ (weaken (labelled_block_sound ts) (λ b a is.
     blocks_settle n (so_far ++ b ∷ []) a (omega (arith, fits, ap length is.1.1, block_takes b is.0 a is.2)))))
 
-looks_empty : Looks (λ (ts : List Tok). is_empty ts)
+pub looks_empty : Looks (λ (ts : List Tok). is_empty ts)
 looks_empty t a c = refl
 
-early_blocks_within : (n : ℕ) (so_far : List Block) → IsEarly (blocks_within n so_far)
+pub early_blocks_within : (n : ℕ) (so_far : List Block) → IsEarly (blocks_within n so_far)
 unfolding blocks_within
 early_blocks_within zero so_far = early_done so_far
 early_blocks_within (suc n) so_far = early_if (λ ts. is_empty ts) (λ ts. Done so_far ts) (λ ts. labelled_block ts >>= λ b ts. blocks_within n (so_far ++ b ∷ []) ts) looks_empty (early_done so_far)

@@ -47,19 +47,19 @@ pub looks_name : Looks name_at
 unfolding name_at
 looks_name t a c = refl
 
-looks_group : Looks group_at
+pub looks_group : Looks group_at
 unfolding group_at
 looks_group t a c = refl
 
-looks_literal : (w : ℕ) → Looks (literal_at w)
+pub looks_literal : (w : ℕ) → Looks (literal_at w)
 unfolding literal_at
 looks_literal w t a c = refl
 
-looks_callee : (w : ℕ) → Looks (callee_at w)
+pub looks_callee : (w : ℕ) → Looks (callee_at w)
 unfolding callee_at kind_at name_at
 looks_callee w t a c = refl
 
-looks_assume : Looks assume_at
+pub looks_assume : Looks assume_at
 unfolding assume_at kind_at name_at
 looks_assume t a c = refl
 
@@ -141,7 +141,7 @@ pub if_same : {A : Type 0} (b : Bool) (r s u v : A) → (b ≡ true → r ≡ u)
 if_same true r s u v yes_ other = yes_ refl
 if_same false r s u v yes_ other = other refl
 
-some_same : {A B : Type 0} (f g : A → B) (o : Option A) (r : B) → ((x : A) → f x ≡ g x) → option_map_or f o r ≡ option_map_or g o r
+pub some_same : {A B : Type 0} (f g : A → B) (o : Option A) (r : B) → ((x : A) → f x ≡ g x) → option_map_or f o r ≡ option_map_or g o r
 some_same f g (Some x) r same = same x
 some_same f g None r same = refl
 
@@ -151,76 +151,76 @@ behind_fits n (t ∷ ts) fits = omega (arith, fits)
 
 -- ---- flags
 
-flags_settle : (allowed : Flags) (n : ℕ) (so_far : Flags) (ts : List Tok) → length ts ≤ n → flags_within n allowed so_far ts ≡ flags_within (suc n) allowed so_far ts
+pub flags_settle : (allowed : Flags) (n : ℕ) (so_far : Flags) (ts : List Tok) → length ts ≤ n → flags_within n allowed so_far ts ≡ flags_within (suc n) allowed so_far ts
 unfolding flags_within word_at add_flag
 flags_settle allowed zero so_far [] fits = refl
 flags_settle allowed zero so_far (t ∷ ts) fits = absurd (omega arith)
 flags_settle allowed (suc n) so_far ts fits = some_same _ _ (add_flag allowed so_far (word_at ts)) (Done so_far ts) (λ more. flags_settle allowed n more (drop 1 ts) (behind_fits n ts fits))
 
-early_flags_within : (allowed : Flags) (n : ℕ) (so_far : Flags) → IsEarly (flags_within n allowed so_far)
+pub early_flags_within : (allowed : Flags) (n : ℕ) (so_far : Flags) → IsEarly (flags_within n allowed so_far)
 unfolding flags_within
 early_flags_within allowed zero so_far = early_done so_far
 early_flags_within allowed (suc n) so_far =
     early_some (λ ts. add_flag allowed so_far (word_at ts)) (λ more ts. flags_within n allowed more (drop 1 ts)) (λ ts. Done so_far ts) (looks_of_word (add_flag allowed so_far))
     (λ more. early_behind (flags_within n allowed more) (early_flags_within allowed n more)) (early_done so_far)
 
-early_flags : (allowed : Flags) → IsEarly (flags allowed)
+pub early_flags : (allowed : Flags) → IsEarly (flags allowed)
 unfolding flags
 early_flags allowed = early_within (λ n. flags_within n allowed no_flags) (settles_from _ (λ n ts fits. flags_settle allowed n no_flags ts fits)) (λ n. early_flags_within allowed n no_flags)
 
 -- ---- operations
 
-early_binary : (kind : BinKind) → IsEarly (binary kind)
+pub early_binary : (kind : BinKind) → IsEarly (binary kind)
 unfolding binary
 early_binary kind = early_then _ _ (early_flags (takes kind)) (λ f. early_then _ _ early_typed (λ left. early_then _ _ (early_second left.0) (λ right. early_done (op.Bin kind f left.0 left.1 right))))
 
-early_compare : IsEarly compare
+pub early_compare : IsEarly compare
 unfolding compare
 early_compare = early_then _ _ (early_flags compare_takes) (λ f. early_then _ _ (early_take_some (λ ts. pred_of (word_at ts)) place.Keyword (looks_of_word pred_of))
     (λ p. early_then _ _ early_typed (λ left. early_then _ _ (early_second left.0) (λ right. early_done (op.Cmp p f left.0 left.1 right)))))
 
-early_conversion : (kind : CastKind) → IsEarly (conversion kind)
+pub early_conversion : (kind : CastKind) → IsEarly (conversion kind)
 unfolding conversion
 early_conversion kind = early_then _ _ (early_flags (cast_takes kind)) (λ f. early_then _ _ early_typed (λ arg. early_then _ _ (early_keyword (codes "to")) (λ _. early_then _ _ early_width (λ to. early_done (op.Cast kind f arg.0 arg.1 to)))))
 
-early_select : IsEarly select
+pub early_select : IsEarly select
 unfolding select
 early_select = early_then _ _ (early_of_width 1) (λ x. early_then _ _ (early_mark 44) (λ _. early_then _ _ early_typed (λ left. early_then _ _ (early_mark 44) (λ _. early_then _ _ (early_of_width left.0) (λ right. early_done (op.Select left.0 x left.1 right))))))
 
 -- ---- calls
 
-early_call_words : IsEarly call_words
+pub early_call_words : IsEarly call_words
 unfolding call_words
 early_call_words = early_same _ (λ ts. if bytes_eq (word_at ts) (codes "call") then keyword (codes "call") ts else keyword (codes "call") (drop 1 ts)) (λ ts. push_if (keyword (codes "call")) (bytes_eq (word_at ts) (codes "call")) ts (drop 1 ts))
     (early_if (λ ts. bytes_eq (word_at ts) (codes "call")) (keyword (codes "call")) (λ ts. keyword (codes "call") (drop 1 ts)) (looks_of_word (λ w. bytes_eq w (codes "call"))) (early_keyword (codes "call")) (early_behind (keyword (codes "call")) (early_keyword (codes "call"))))
 
-early_called : (w : ℕ) → IsEarly (called w)
+pub early_called : (w : ℕ) → IsEarly (called w)
 unfolding called
 early_called w = early_take_some (callee_at w) place.Callee (looks_callee w)
 
-early_last_argument : (f : Callee) (w : ℕ) (x : Operand) → IsEarly (last_argument f w x)
+pub early_last_argument : (f : Callee) (w : ℕ) (x : Operand) → IsEarly (last_argument f w x)
 unfolding last_argument
 early_last_argument (callee.Bin kind) w x = early_then _ _ (early_of_width w) (λ right. early_done (op.Bin kind no_flags w x right))
 early_last_argument callee.Abs w x = early_then _ _ (early_one_width 1) (λ _. early_then _ _ (early_literal 1) (λ n. early_done (op.Abs w x (n == 1))))
 
-early_group : IsEarly (λ ts. Done (tt {0}) (if group_at ts then drop 1 ts else ts))
+pub early_group : IsEarly (λ ts. Done (tt {0}) (if group_at ts then drop 1 ts else ts))
 early_group = early_same _ (λ ts. if group_at ts then Done (tt {0}) (drop 1 ts) else Done (tt {0}) ts) (λ ts. push_if (λ (l : List Tok). Done (tt {0}) l) (group_at ts) (drop 1 ts) ts)
     (early_if group_at (λ ts. Done (tt {0}) (drop 1 ts)) (λ ts. Done (tt {0}) ts) looks_group (early_taken (λ _. tt {0}) (looks_nothing (tt {0}))) (early_done (tt {0})))
 
-early_close_call : IsEarly close_call
+pub early_close_call : IsEarly close_call
 unfolding close_call
 early_close_call = early_then _ (λ _ ts. Done (tt {0}) (if group_at ts then drop 1 ts else ts)) (early_mark 41) (λ _. early_group)
 
-early_value_call : IsEarly value_call
+pub early_value_call : IsEarly value_call
 unfolding value_call
 early_value_call = early_then _ _ early_call_words (λ _. early_then _ _ early_width (λ w. early_then _ _ (early_called w) (λ f. early_then _ _ (early_mark 40) (λ _. early_then _ _ (early_of_width w) (λ first. early_then _ _ (early_mark 44) (λ _.
     early_then _ _ (early_last_argument f w first) (λ computed. early_then _ _ early_close_call (λ _. early_done computed))))))))
 
-early_void : IsEarly void
+pub early_void : IsEarly void
 unfolding void
 early_void = early_take_if (λ ts. bytes_eq (word_at ts) (codes "void")) (λ _. tt {0}) place.Type (looks_of_word (λ w. bytes_eq w (codes "void"))) (looks_nothing (tt {0}))
 
-early_assume_callee : IsEarly assume_callee
+pub early_assume_callee : IsEarly assume_callee
 unfolding assume_callee
 early_assume_callee = early_take_if assume_at (λ _. tt {0}) place.Callee looks_assume (looks_nothing (tt {0}))
 
@@ -239,30 +239,30 @@ early_operation =
 
 -- ---- phis
 
-early_entry : (w : ℕ) → IsEarly (entry w)
+pub early_entry : (w : ℕ) → IsEarly (entry w)
 unfolding entry
 early_entry w = early_then _ _ (early_mark 91) (λ _. early_then _ _ (early_operand w) (λ x. early_then _ _ (early_mark 44) (λ _. early_then _ _ (early_name kinds.Local place.Other) (λ from. early_then _ _ (early_mark 93) (λ _. early_done (record { value = x; from = from }))))))
 
-early_behind_comma : IsEarly behind_comma
+pub early_behind_comma : IsEarly behind_comma
 unfolding behind_comma
 early_behind_comma = early_if (mark_at 91) (λ ts. Done true ts) _ (looks_mark 91) (early_done true) (early_then _ _ early_metadatum (λ _. early_then _ _ early_metadatum (λ _. early_done false)))
 
-early_another : IsEarly another
+pub early_another : IsEarly another
 unfolding another
 early_another = early_if (mark_at 44) (λ ts. behind_comma (drop 1 ts)) (λ ts. Done false ts) (looks_mark 44) (early_behind behind_comma early_behind_comma) (early_done false)
 
-follows_take : (follows : Bool) (ts rest : List Tok) → Follows follows ts rest → length rest ≤ length ts
+pub follows_take : (follows : Bool) (ts rest : List Tok) → Follows follows ts rest → length rest ≤ length ts
 follows_take true ts rest comma = omega (arith, ap length comma.1)
 follows_take false ts rest (pairs, are) = omega (arith, metadata_take pairs ts rest are)
 
-entries_settle : (w n : ℕ) (so_far : List PhiEntry) (ts : List Tok) → length ts ≤ n → entries w n so_far ts ≡ entries w (suc n) so_far ts
+pub entries_settle : (w n : ℕ) (so_far : List PhiEntry) (ts : List Tok) → length ts ≤ n → entries w n so_far ts ≡ entries w (suc n) so_far ts
 unfolding entries entry mark mark_at
 entries_settle w zero so_far [] fits = refl
 entries_settle w zero so_far (t ∷ ts) fits = absurd (omega arith)
 entries_settle w (suc n) so_far ts fits = then_same (entry w ts) _ _ (weaken (entry_sound w ts) (λ e a is. then_same (another a) _ _ (weaken (another_sound a) (λ follows b next.
     if_same follows _ _ _ _ (λ _. entries_settle w n (so_far ++ e ∷ []) b (omega (arith, fits, entry_takes w e ts a is, follows_take follows a b next))) (λ _. refl)))))
 
-early_entries : (w n : ℕ) (so_far : List PhiEntry) → IsEarly (entries w n so_far)
+pub early_entries : (w n : ℕ) (so_far : List PhiEntry) → IsEarly (entries w n so_far)
 unfolding entries
 early_entries w zero so_far = early_ran_out
 early_entries w (suc n) so_far = early_then _ _ (early_entry w) (λ e. early_then _ (λ follows ts. entries_behind (entries w n) follows (so_far ++ e ∷ []) ts) early_another (λ follows. go e follows (early_entries w n (so_far ++ e ∷ []))))
@@ -278,32 +278,32 @@ early_phi r = early_then _ _ early_width (λ w. early_then (λ ts. entries w (le
 
 -- ---- terminators
 
-early_return_value : IsEarly return_value
+pub early_return_value : IsEarly return_value
 unfolding return_value
 early_return_value = early_if (λ ts. bytes_eq (word_at ts) (codes "void")) (λ ts. Done end.RetVoid (drop 1 ts)) _ (looks_of_word (λ w. bytes_eq w (codes "void"))) (early_taken (λ _. end.RetVoid) (looks_nothing end.RetVoid))
     (early_then _ _ early_typed (λ x. early_done (end.Ret x.0 x.1)))
 
-early_branch : IsEarly branch
+pub early_branch : IsEarly branch
 unfolding branch
 early_branch = early_if (λ ts. bytes_eq (word_at ts) (codes "label")) _ _ (looks_of_word (λ w. bytes_eq w (codes "label"))) (early_then target (λ to ts. Done (end.Br to) ts) early_target (λ to. early_done (end.Br to)))
     (early_then _ _ (early_keyword (codes "i1")) (λ _. early_then _ _ (early_operand 1) (λ x. early_then _ _ early_next_target (λ left. early_then _ _ early_next_target (λ right. early_done (end.CondBr x left right))))))
 
-early_case : IsEarly case
+pub early_case : IsEarly case
 unfolding case
 early_case = early_then _ _ early_width (λ w. early_then _ _ (early_literal w) (λ n. early_then _ _ early_next_target (λ to. early_done (record { width = w; value = n; to = to }))))
 
-cases_settle : (n : ℕ) (so_far : List Case) (ts : List Tok) → length ts ≤ n → cases n so_far ts ≡ cases (suc n) so_far ts
+pub cases_settle : (n : ℕ) (so_far : List Case) (ts : List Tok) → length ts ≤ n → cases n so_far ts ≡ cases (suc n) so_far ts
 unfolding cases case width width_of word_at mark_at
 cases_settle zero so_far [] fits = refl
 cases_settle zero so_far (t ∷ ts) fits = absurd (omega arith)
 cases_settle (suc n) so_far ts fits = if_same (mark_at 93 ts) _ _ _ _ (λ _. refl) (λ _. then_same (case ts) _ _ (weaken (case_sound ts) (λ c a is. cases_settle n (so_far ++ c ∷ []) a (omega (arith, fits, case_takes c ts a is)))))
 
-early_cases : (n : ℕ) (so_far : List Case) → IsEarly (cases n so_far)
+pub early_cases : (n : ℕ) (so_far : List Case) → IsEarly (cases n so_far)
 unfolding cases
 early_cases zero so_far = early_ran_out
 early_cases (suc n) so_far = early_if (mark_at 93) (λ ts. Done so_far (drop 1 ts)) _ (looks_mark 93) (early_taken (λ _. so_far) (looks_nothing so_far)) (early_then _ _ early_case (λ c. early_cases n (so_far ++ c ∷ [])))
 
-early_switch : IsEarly switch
+pub early_switch : IsEarly switch
 unfolding switch
 early_switch = early_then _ _ early_typed (λ x. early_then _ _ early_next_target (λ default. early_then _ _ (early_mark 91) (λ _. early_then (λ ts. cases (length ts) [] ts) (λ cs ts. Done (end.Switch x.0 x.1 default cs) ts)
     (early_within (λ n. cases n []) (settles_from _ (λ n ts fits. cases_settle n [] ts fits)) (λ n. early_cases n [])) (λ cs. early_done (end.Switch x.0 x.1 default cs)))))

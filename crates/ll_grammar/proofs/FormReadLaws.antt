@@ -99,25 +99,25 @@ end_word (end.Br to) ts rest is = (is.0, is.1)
 end_word (end.CondBr cond_ left right) ts rest is = (is.0, is.3)
 end_word (end.Switch w x default cs) ts rest is = (is.0, is.5)
 
-return_void_reads : (ts rest : List Tok) → IsWord (codes "void") ts rest → return_value ts ≡ Done end.RetVoid rest
+pub return_void_reads : (ts rest : List Tok) → IsWord (codes "void") ts rest → return_value ts ≡ Done end.RetVoid rest
 unfolding return_value
 return_void_reads ts rest is = if_reads (bytes_eq (word_at ts) (codes "void")) _ _ (bytes_same _ _ (at_word ts rest _ is)) (ap (λ (l : List Tok). Done end.RetVoid l) (behind_first ts rest is.0 is.1))
 
-return_reads : (w : ℕ) (x : Operand) (ts rest : List Tok) → IsTyped w x ts rest → return_value ts ≡ Done (end.Ret w x) rest
+pub return_reads : (w : ℕ) (x : Operand) (ts rest : List Tok) → IsTyped w x ts rest → return_value ts ≡ Done (end.Ret w x) rest
 unfolding return_value width_of
 return_reads w x ts rest t = else_reads (bytes_eq (word_at ts) (codes "void")) _ _ (type_apart ts t.0 w (codes "void") t.1 refl) (then_reads _ _ (typed_reads w x ts rest t) refl)
 
-goto_reads : (to : List ℕ) (ts rest : List Tok) → IsTarget to ts rest → branch ts ≡ Done (end.Br to) rest
+pub goto_reads : (to : List ℕ) (ts rest : List Tok) → IsTarget to ts rest → branch ts ≡ Done (end.Br to) rest
 unfolding branch
 goto_reads to ts rest is = if_reads (bytes_eq (word_at ts) (codes "label")) _ _ (bytes_same _ _ (at_word ts is.0 _ is.1)) (then_reads _ _ (target_reads to ts rest is) refl)
 
-branch_reads : (x : Operand) (left right : List ℕ) (ts a b rest : List Tok) → IsTyped 1 x ts a → IsNextTarget left a b → IsNextTarget right b rest → branch ts ≡ Done (end.CondBr x left right) rest
+pub branch_reads : (x : Operand) (left right : List ℕ) (ts a b rest : List Tok) → IsTyped 1 x ts a → IsNextTarget left a b → IsNextTarget right b rest → branch ts ≡ Done (end.CondBr x left right) rest
 unfolding branch width_of
 branch_reads x left right ts a b rest (c, t, o) l r =
     else_reads (bytes_eq (word_at ts) (codes "label")) _ _ (type_apart ts c 1 (codes "label") t refl)
     (then_reads _ _ (keyword_reads ts c _ (bit_word ts c t)) (then_reads _ _ (operand_reads 1 x c a o) (then_reads _ _ (next_target_reads left a b l) (then_reads _ _ (next_target_reads right b rest r) refl))))
 
-switch_reads : (w : ℕ) (x : Operand) (default : List ℕ) (cs : List Case) (ts a b c d rest : List Tok) → IsTyped w x ts a → IsNextTarget default a b → IsMark 91 b c → SpellCases cs c d → IsMark 93 d rest
+pub switch_reads : (w : ℕ) (x : Operand) (default : List ℕ) (cs : List Case) (ts a b c d rest : List Tok) → IsTyped w x ts a → IsNextTarget default a b → IsMark 91 b c → SpellCases cs c d → IsMark 93 d rest
     → switch ts ≡ Done (end.Switch w x default cs) rest
 unfolding switch
 switch_reads w x default cs ts a b c d rest t to opens are closes =

@@ -63,7 +63,7 @@ words_within_sound (suc most) those noundef ts none = on_if (is_among those (wor
     )))
     (λ _. on_done ([], (refl, refl), sym (or_false noundef)))
 
-words_sound : (those : List (List ℕ)) (noundef : Bool) (ts : List Tok) → is_among those [] ≡ false → OnDone (words those noundef ts) (AreFrom those noundef ts)
+pub words_sound : (those : List (List ℕ)) (noundef : Bool) (ts : List Tok) → is_among those [] ≡ false → OnDone (words those noundef ts) (AreFrom those noundef ts)
 unfolding words
 words_sound those noundef ts none = words_within_sound (length ts) those noundef ts none
 

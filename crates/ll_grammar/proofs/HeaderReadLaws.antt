@@ -32,7 +32,7 @@ use Rattle.ll_grammar.proofs.BlockReadLaws.{blocks_reads}
 
 -- ---- words of a table
 
-words_within_reads : (ws : List (List ℕ)) (most : ℕ) (those : List (List ℕ)) (noundef : Bool) (ts rest : List Tok) → length ws ≤ most → AreAttributes those ws ts rest → is_among those (word_at rest) ≡ false
+pub words_within_reads : (ws : List (List ℕ)) (most : ℕ) (those : List (List ℕ)) (noundef : Bool) (ts rest : List Tok) → length ws ≤ most → AreAttributes those ws ts rest → is_among those (word_at rest) ≡ false
     → words_within most those noundef ts ≡ Done (noundef || has (codes "noundef") ws) rest
 unfolding words_within
 words_within_reads [] zero those noundef ts rest few (here, all) none = ap (λ (l : List Tok). Done noundef l) here ∙ ap (λ (b : Bool). Done b rest) (sym (or_false noundef))
@@ -47,11 +47,11 @@ words_within_reads (w ∷ ws) (suc most) those noundef ts rest few ((a, is, more
     ∙ words_within_reads ws most those (noundef || bytes_eq w (codes "noundef")) a rest (omega (arith, few)) (more, p.1) none
     ∙ ap (λ (b : Bool). Done b rest) (sym (or_assoc noundef (bytes_eq w (codes "noundef")) (has (codes "noundef") ws))))
 
-words_reads : (ws those : List (List ℕ)) (noundef : Bool) (ts rest : List Tok) → AreAttributes those ws ts rest → is_among those (word_at rest) ≡ false → words those noundef ts ≡ Done (noundef || has (codes "noundef") ws) rest
+pub words_reads : (ws those : List (List ℕ)) (noundef : Bool) (ts rest : List Tok) → AreAttributes those ws ts rest → is_among those (word_at rest) ≡ false → words those noundef ts ≡ Done (noundef || has (codes "noundef") ws) rest
 unfolding words
 words_reads ws those noundef ts rest are none = words_within_reads ws (length ts) those noundef ts rest (omega (arith, words_take ws ts rest are.0)) are none
 
-no_width : List ℕ → Bool
+pub no_width : List ℕ → Bool
 no_width word = option_map_or (λ w. false) (width_of word) true
 
 no_width_is : (word : List ℕ) → no_width word ≡ true → width_of word ≡ None
@@ -63,24 +63,24 @@ no_width_is word = go (width_of word)
     go None e = refl
 
 -- a type is no word of a table without types
-type_not_among : (those : List (List ℕ)) (w : ℕ) (ts rest : List Tok) → IsType w ts rest → list_all no_width those ≡ true → is_among those (word_at ts) ≡ false
+pub type_not_among : (those : List (List ℕ)) (w : ℕ) (ts rest : List Tok) → IsType w ts rest → list_all no_width those ≡ true → is_among those (word_at ts) ≡ false
 type_not_among [] w ts rest t none = refl
 type_not_among (x ∷ those) w ts rest t none =
     let p = both_true _ _ none in
     ap (λ (b : Bool). b || is_among those (word_at ts)) (type_apart ts rest w x t (no_width_is x p.0)) ∙ type_not_among those w ts rest t p.1
 
-no_header_type : list_all no_width tables.header ≡ true
+pub no_header_type : list_all no_width tables.header ≡ true
 unfolding no_width width_of digits_width
 no_header_type = refl
 
 -- ---- ranges
 
-other_literal_reads : (w lo hi : ℕ) (ts rest : List Tok) → (lo ≡ hi → ⊥) → IsLiteral w hi ts rest → other_literal w lo ts ≡ Some hi
+pub other_literal_reads : (w lo hi : ℕ) (ts rest : List Tok) → (lo ≡ hi → ⊥) → IsLiteral w hi ts rest → other_literal w lo ts ≡ Some hi
 unfolding other_literal
 other_literal_reads w lo hi ts rest apart l =
     ap (λ o. option_map_or (λ m. if eqb m lo then None else Some m) o None) (literal_at_reads ts rest w hi l) ∙ ap (λ b. if b then None else Some hi) (ne_eqb hi lo (λ e. apart (sym e)))
 
-bounds_reads : (w : ℕ) (r : Range) (ts a b c rest : List Tok) → (r.lo ≡ r.hi → ⊥) → IsLiteral w r.lo ts a → IsMark 44 a b → IsLiteral w r.hi b c → IsMark 41 c rest → bounds w ts ≡ Done r rest
+pub bounds_reads : (w : ℕ) (r : Range) (ts a b c rest : List Tok) → (r.lo ≡ r.hi → ⊥) → IsLiteral w r.lo ts a → IsMark 44 a b → IsLiteral w r.hi b c → IsMark 41 c rest → bounds w ts ≡ Done r rest
 unfolding bounds
 bounds_reads w r ts a b c rest apart lo comma hi closes =
     then_reads _ _ (literal_reads ts a w r.lo lo) (then_reads _ _ (mark_reads a b 44 comma)
@@ -88,7 +88,7 @@ bounds_reads w r ts a b c rest apart lo comma hi closes =
 
 -- ---- what stands before the name
 
-ranged_result_reads : (w : ℕ) (noundef : Bool) (r : Range) (behind : List (List ℕ)) (ts a b c d e g rest : List Tok) → (r.lo ≡ r.hi → ⊥) → IsMark 40 ts a → IsType w a b → IsLiteral w r.lo b c → IsMark 44 c d
+pub ranged_result_reads : (w : ℕ) (noundef : Bool) (r : Range) (behind : List (List ℕ)) (ts a b c d e g rest : List Tok) → (r.lo ≡ r.hi → ⊥) → IsMark 40 ts a → IsType w a b → IsLiteral w r.lo b c → IsMark 44 c d
     → IsLiteral w r.hi d e → IsMark 41 e g → (h : List Tok) → AreAttributes tables.header behind g h → IsType w h rest
     → ranged_result noundef ts ≡ Done (record { ret = ret.Int w; noundef = noundef || has (codes "noundef") behind; range = Some r }) rest
 unfolding ranged_result
@@ -97,25 +97,25 @@ ranged_result_reads w noundef r behind ts a b c d e g rest apart opens t lo comm
     (then_reads _ _ (words_reads behind tables.header noundef g h more (type_not_among tables.header w h rest type no_header_type))
     (take_if_reads _ _ _ h rest type.0.1 (has_width_reads h rest w type)))))
 
-void_reads : (ts rest : List Tok) → IsWord (codes "void") ts rest → ret_type ts ≡ Done ret.Void rest
+pub void_reads : (ts rest : List Tok) → IsWord (codes "void") ts rest → ret_type ts ≡ Done ret.Void rest
 unfolding ret_type
 void_reads ts rest is = if_reads (bytes_eq (word_at ts) (codes "void")) _ _ (bytes_same _ _ (at_word ts rest _ is)) (ap (λ (l : List Tok). Done ret.Void l) (behind_first ts rest is.0 is.1))
 
-int_reads : (w : ℕ) (ts rest : List Tok) → IsType w ts rest → ret_type ts ≡ Done (ret.Int w) rest
+pub int_reads : (w : ℕ) (ts rest : List Tok) → IsType w ts rest → ret_type ts ≡ Done (ret.Int w) rest
 unfolding ret_type width_of
 int_reads w ts rest t = else_reads (bytes_eq (word_at ts) (codes "void")) _ _ (type_apart ts rest w (codes "void") t refl) (then_reads _ _ (width_reads ts rest w t) refl)
 
-plain_result_reads : (r : Ret) (ws : List (List ℕ)) (ts a rest : List Tok) → AreAttributes tables.header ws ts a → is_among tables.header (word_at a) ≡ false → range_at a ≡ false → ret_type a ≡ Done r rest
+pub plain_result_reads : (r : Ret) (ws : List (List ℕ)) (ts a rest : List Tok) → AreAttributes tables.header ws ts a → is_among tables.header (word_at a) ≡ false → range_at a ≡ false → ret_type a ≡ Done r rest
     → result_type ts ≡ Done (record { ret = r; noundef = has (codes "noundef") ws; range = None }) rest
 unfolding result_type
 plain_result_reads r ws ts a rest are none no_range e =
     then_reads _ _ (words_reads ws tables.header false ts a are none) (else_reads (range_at a) _ _ no_range (then_reads _ _ e refl))
 
-type_no_range : (w : ℕ) (ts rest : List Tok) → IsType w ts rest → range_at ts ≡ false
+pub type_no_range : (w : ℕ) (ts rest : List Tok) → IsType w ts rest → range_at ts ≡ false
 unfolding width_of
 type_no_range w ts rest t = type_apart ts rest w (codes "range") t refl
 
-result_type_reads : (r : Ret) (noundef : Bool) (range : Option Range) (ts rest : List Tok) → SpellsResult r noundef range ts rest → result_type ts ≡ Done (record { ret = r; noundef = noundef; range = range }) rest
+pub result_type_reads : (r : Ret) (noundef : Bool) (range : Option Range) (ts rest : List Tok) → SpellsResult r noundef range ts rest → result_type ts ≡ Done (record { ret = r; noundef = noundef; range = range }) rest
 unfolding result_type
 result_type_reads ret.Void noundef (Some r) ts rest (a, none, attributes, is) = none_is (sym none)
 result_type_reads ret.Void noundef None ts rest (a, none, (ws, are, found), is) =
@@ -135,7 +135,7 @@ result_type_reads (ret.Int w) noundef (Some r) ts rest (a, (before, behind, b, c
 -- ---- parameters
 
 -- what may follow a parameter's attributes is no word
-param_type_reads : (w : ℕ) (noundef : Bool) (range : Option Range) (ts a rest : List Tok) → IsType w ts a → SpellsAttributes tables.attribute w noundef range a rest → word_at rest ≡ []
+pub param_type_reads : (w : ℕ) (noundef : Bool) (range : Option Range) (ts a rest : List Tok) → IsType w ts a → SpellsAttributes tables.attribute w noundef range a rest → word_at rest ≡ []
     → param_type ts ≡ Done (record { width = w; noundef = noundef; range = range }) rest
 unfolding param_type param_range
 param_type_reads w noundef None ts a rest t (ws, are, found) none =
@@ -150,12 +150,12 @@ param_type_reads w noundef (Some r) ts a rest t (before, behind, b, c, are, (apa
     (then_reads _ _ (words_reads behind tables.attribute (has (codes "noundef") before) c rest more (ap (is_among tables.attribute) none))
     (ap (λ (b : Bool). Done (record { width = w; noundef = b; range = Some r }) rest) (sym (found ∙ has_append (codes "noundef") before behind)))))))))
 
-closing_reads : (more : Bool) (at : Place) (ts rest : List Tok) → IsMark (closing_mark more) ts rest → closing at ts ≡ Done more rest
+pub closing_reads : (more : Bool) (at : Place) (ts rest : List Tok) → IsMark (closing_mark more) ts rest → closing at ts ≡ Done more rest
 unfolding closing
 closing_reads true at ts rest is = if_reads (mark_at 44 ts) _ _ (mark_there ts rest 44 is) (ap (λ (l : List Tok). Done true l) (behind_first ts rest is.0 is.1))
 closing_reads false at ts rest is = else_reads (mark_at 44 ts) _ _ (other_mark ts rest 41 44 refl is) (take_if_reads _ _ _ ts rest is.1 (mark_there ts rest 41 is))
 
-param_reads : (unnamed : ℕ) (p : Param) (more : Bool) (ts a rest : List Tok) → SpellsParam unnamed p ts a → IsMark (closing_mark more) a rest → param unnamed ts ≡ Done (p, more) rest
+pub param_reads : (unnamed : ℕ) (p : Param) (more : Bool) (ts a rest : List Tok) → SpellsParam unnamed p ts a → IsMark (closing_mark more) a rest → param unnamed ts ≡ Done (p, more) rest
 unfolding param
 param_reads unnamed p more ts a rest (noundef, b, c, t, attributes, strict, inl named) closes =
     then_reads _ _ (param_type_reads p.width noundef p.range ts b c t attributes (at_token c a named.0 named.1 kinds.Local named.2))
@@ -171,7 +171,7 @@ param_reads unnamed p more ts a rest (noundef, b, c, t, attributes, strict, inr 
     (ap (λ (n : List ℕ). Done (param_of n (record { width = p.width; noundef = noundef; range = p.range }), more) rest) (sym unwritten)
     ∙ ap (λ (b : Bool). Done (record { name = p.name; width = p.width; range = p.range; strict = b }, more) rest) (sym strict))))
 
-params_within_reads : (p : Param) (more : List Param) (most : ℕ) (so_far : List Param) (unnamed : ℕ) (ts rest : List Tok) → length ts ≤ most → SpellParams unnamed (p ∷ more) ts rest
+pub params_within_reads : (p : Param) (more : List Param) (most : ℕ) (so_far : List Param) (unnamed : ℕ) (ts rest : List Tok) → length ts ≤ most → SpellParams unnamed (p ∷ more) ts rest
     → params_within most so_far unnamed ts ≡ Done (so_far ++ p ∷ more, spells.count_unnamed unnamed (p ∷ more)) rest
 unfolding params_within
 params_within_reads p [] zero so_far unnamed ts rest few (a, is, closes) = absurd (omega (arith, few, param_takes unnamed p ts a is))
@@ -185,7 +185,7 @@ params_within_reads p (next ∷ more) (suc most) so_far unnamed ts rest few (a, 
 type_no_mark : (w : ℕ) (ts rest : List Tok) → IsType w ts rest → mark_at 41 ts ≡ false
 type_no_mark w ts rest t = at_mark ts rest t.0.0 t.0.1 kinds.Word t.0.2 41
 
-params_reads : (ps : List Param) (ts rest : List Tok) → SpellParams 0 ps ts rest → params ts ≡ Done (ps, spells.count_unnamed 0 ps) rest
+pub params_reads : (ps : List Param) (ts rest : List Tok) → SpellParams 0 ps ts rest → params ts ≡ Done (ps, spells.count_unnamed 0 ps) rest
 unfolding params
 params_reads [] ts rest closes = if_reads (mark_at 41 ts) _ _ (mark_there ts rest 41 closes) (ap (λ (l : List Tok). Done ([], 0) l) (behind_first ts rest closes.0 closes.1))
 params_reads (p ∷ more) ts rest are = else_reads (mark_at 41 ts) _ _ (starts more are) (params_within_reads p more (length ts) [] 0 ts rest (omega arith) are)
@@ -196,7 +196,7 @@ params_reads (p ∷ more) ts rest are = else_reads (mark_at 41 ts) _ _ (starts m
 
 -- ---- the whole function
 
-no_brace_reads : (byte : ℕ) (t : Tok) (ts : List Tok) → (t.kind ≡ kinds.Mark → t.text ≡ byte ∷ [] → ⊥) → mark_at byte (t ∷ ts) ≡ false
+pub no_brace_reads : (byte : ℕ) (t : Tok) (ts : List Tok) → (t.kind ≡ kinds.Mark → t.text ≡ byte ∷ [] → ⊥) → mark_at byte (t ∷ ts) ≡ false
 unfolding mark_at
 no_brace_reads byte t ts none = go (is_kind t.kind kinds.Mark && bytes_eq t.text (byte ∷ [])) refl
   where
@@ -204,7 +204,7 @@ no_brace_reads byte t ts none = go (is_kind t.kind kinds.Mark && bytes_eq t.text
     go false e = e
     go true e = let p = both_true _ _ e in absurd (none (same_kind _ _ p.0) (same_bytes _ _ p.1))
 
-to_body_within_reads : (between : List Tok) (most : ℕ) (brace body : List Tok) → length (between ++ brace) ≤ most → All IsNoBrace between → IsMark 123 brace body → to_body_within most (between ++ brace) ≡ Done (tt {0}) body
+pub to_body_within_reads : (between : List Tok) (most : ℕ) (brace body : List Tok) → length (between ++ brace) ≤ most → All IsNoBrace between → IsMark 123 brace body → to_body_within most (between ++ brace) ≡ Done (tt {0}) body
 unfolding to_body_within
 to_body_within_reads [] zero brace body few all opens = absurd (omega (arith, few, ap length opens.1))
 to_body_within_reads [] (suc most) brace body few all opens = if_reads (mark_at 123 brace) _ _ (mark_there brace body 123 opens) (ap (λ (l : List Tok). Done (tt {0}) l) (behind_first brace body opens.0 opens.1))
@@ -215,7 +215,7 @@ to_body_within_reads (t ∷ between) (suc most) brace body few all opens =
     (else_reads (mark_at 125 (t ∷ (between ++ brace))) _ _ (no_brace_reads 125 t (between ++ brace) (λ k is. none k (inr is)))
     (to_body_within_reads between most brace body (omega (arith, few)) (All-tail IsNoBrace t between all) opens))
 
-to_body_reads : (between ts brace body : List Tok) → ts ≡ between ++ brace → All IsNoBrace between → IsMark 123 brace body → to_body ts ≡ Done (tt {0}) body
+pub to_body_reads : (between ts brace body : List Tok) → ts ≡ between ++ brace → All IsNoBrace between → IsMark 123 brace body → to_body ts ≡ Done (tt {0}) body
 unfolding to_body
 to_body_reads between ts brace body is all opens = ap (λ l. to_body_within (length l) l) is ∙ to_body_within_reads between (length (between ++ brace)) brace body (omega arith) all opens
 

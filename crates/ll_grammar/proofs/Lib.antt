@@ -23,4 +23,9 @@ pub mod EarlyLaws
 pub mod EarlyFormLaws
 pub mod EarlyBlockLaws
 pub mod EarlyHeaderLaws
+pub mod CompletionLaws
+pub mod CompletionFormLaws
+pub mod CompletionOpLaws
+pub mod CompletionBlockLaws
+pub mod CompletionHeaderLaws
 pub mod SentenceLaws

@@ -49,7 +49,7 @@ flags_end (suc most) allowed before ts rest here none =
     none_reads _ (add_flag allowed (flags_of before) (word_at ts)) _ (ap (λ l. add_flag allowed (flags_of before) (word_at l)) here ∙ no_more)
     (ap (λ (l : List Tok). Done (flags_of before) l) here ∙ ap (λ (ws : List (List ℕ)). Done (flags_of ws) rest) (sym (append-nil before)))
 
-flags_within_reads : (words : List (List ℕ)) (most : ℕ) (allowed : Flags) (before : List (List ℕ)) (ts rest : List Tok) → length words ≤ most
+pub flags_within_reads : (words : List (List ℕ)) (most : ℕ) (allowed : Flags) (before : List (List ℕ)) (ts rest : List Tok) → length words ≤ most
     → AreWords words ts rest → IsTrue (list_all (flag_words allowed) words) → AreOnce (before ++ words) → flag_words allowed (word_at rest) ≡ false
     → flags_within most allowed (flags_of before) ts ≡ Done (flags_of (before ++ words)) rest
 unfolding flags_within
@@ -88,7 +88,7 @@ pred_no_flag allowed pred.Sle = simp tests
 
 -- ---- operations with a word of their own
 
-binary_of_reads : (kind : BinKind) → is_called kind ≡ false → binary_of (word_of kind) ≡ Some kind
+pub binary_of_reads : (kind : BinKind) → is_called kind ≡ false → binary_of (word_of kind) ≡ Some kind
 unfolding binary_of
 binary_of_reads bin.Add plain = refl
 binary_of_reads bin.Sub plain = refl
@@ -105,13 +105,13 @@ binary_of_reads bin.Urem plain = refl
 binary_of_reads bin.Srem plain = refl
 binary_of_reads kind called = absurd (true≢false called)
 
-cast_of_reads : (kind : CastKind) → (binary_of (cast_word kind) ≡ None) × (cast_of (cast_word kind) ≡ Some kind)
+pub cast_of_reads : (kind : CastKind) → (binary_of (cast_word kind) ≡ None) × (cast_of (cast_word kind) ≡ Some kind)
 unfolding binary_of cast_of
 cast_of_reads cast.Zext = (refl, refl)
 cast_of_reads cast.Sext = (refl, refl)
 cast_of_reads cast.Trunc = (refl, refl)
 
-pred_of_reads : (p : Pred) → pred_of (pred_word p) ≡ Some p
+pub pred_of_reads : (p : Pred) → pred_of (pred_word p) ≡ Some p
 unfolding pred_of
 pred_of_reads pred.Eq = refl
 pred_of_reads pred.Ne = refl
@@ -124,13 +124,13 @@ pred_of_reads pred.Sge = refl
 pred_of_reads pred.Slt = refl
 pred_of_reads pred.Sle = refl
 
-binary_reads : (kind : BinKind) (f : Flags) (w : ℕ) (left right : Operand) (ts a b rest : List Tok) → AreFlags (takes kind) f ts a → IsTyped w left a b → IsSecond w right b rest
+pub binary_reads : (kind : BinKind) (f : Flags) (w : ℕ) (left right : Operand) (ts a b rest : List Tok) → AreFlags (takes kind) f ts a → IsTyped w left a b → IsSecond w right b rest
     → binary kind ts ≡ Done (op.Bin kind f w left right) rest
 unfolding binary
 binary_reads kind f w left right ts a b rest fs l r =
     then_reads _ _ (flags_reads (takes kind) f ts a fs (type_no_flag (takes kind) w a l.0 l.1)) (then_reads _ _ (typed_reads w left a b l) (then_reads _ _ (second_reads w right b rest r) refl))
 
-compare_reads : (p : Pred) (f : Flags) (w : ℕ) (left right : Operand) (ts a b c rest : List Tok) → AreFlags compare_takes f ts a → IsWord (pred_word p) a b → IsTyped w left b c → IsSecond w right c rest
+pub compare_reads : (p : Pred) (f : Flags) (w : ℕ) (left right : Operand) (ts a b c rest : List Tok) → AreFlags compare_takes f ts a → IsWord (pred_word p) a b → IsTyped w left b c → IsSecond w right c rest
     → compare ts ≡ Done (op.Cmp p f w left right) rest
 unfolding compare
 compare_reads p f w left right ts a b c rest fs is l r =
@@ -138,14 +138,14 @@ compare_reads p f w left right ts a b c rest fs is l r =
     (then_reads _ _ (take_some_reads (pred_of (word_at a)) place.Keyword a b is.1 (ap pred_of (at_word a b _ is) ∙ pred_of_reads p))
     (then_reads _ _ (typed_reads w left b c l) (then_reads _ _ (second_reads w right c rest r) refl)))
 
-conversion_reads : (kind : CastKind) (f : Flags) (from to : ℕ) (arg : Operand) (ts a b c rest : List Tok) → AreFlags (cast_takes kind) f ts a → IsTyped from arg a b → IsWord (codes "to") b c → IsType to c rest
+pub conversion_reads : (kind : CastKind) (f : Flags) (from to : ℕ) (arg : Operand) (ts a b c rest : List Tok) → AreFlags (cast_takes kind) f ts a → IsTyped from arg a b → IsWord (codes "to") b c → IsType to c rest
     → conversion kind ts ≡ Done (op.Cast kind f from arg to) rest
 unfolding conversion
 conversion_reads kind f from to arg ts a b c rest fs t is w =
     then_reads _ _ (flags_reads (cast_takes kind) f ts a fs (type_no_flag (cast_takes kind) from a t.0 t.1))
     (then_reads _ _ (typed_reads from arg a b t) (then_reads _ _ (keyword_reads b c _ is) (then_reads _ _ (width_reads c rest to w) refl)))
 
-select_reads : (w : ℕ) (x left right : Operand) (ts a b c d rest : List Tok) → IsTyped 1 x ts a → IsMark 44 a b → IsTyped w left b c → IsMark 44 c d → IsTyped w right d rest
+pub select_reads : (w : ℕ) (x left right : Operand) (ts a b c d rest : List Tok) → IsTyped 1 x ts a → IsMark 44 a b → IsTyped w left b c → IsMark 44 c d → IsTyped w right d rest
     → select ts ≡ Done (op.Select w x left right) rest
 unfolding select
 select_reads w x left right ts a b c d rest t comma l again r =
@@ -185,7 +185,7 @@ call_is_word ts rest (inl is) = (is.0, rest, is.1, is.2)
 call_is_word ts rest (inr (a, inl is, more)) = (is.0, a, is.1, is.2)
 call_is_word ts rest (inr (a, inr is, more)) = (is.0, a, is.1, is.2)
 
-call_words_reads : (ts rest : List Tok) → IsCall ts rest → call_words ts ≡ Done (tt {0}) rest
+pub call_words_reads : (ts rest : List Tok) → IsCall ts rest → call_words ts ≡ Done (tt {0}) rest
 unfolding call_words
 call_words_reads ts rest (inl is) = ap (λ b. keyword (codes "call") (if b then ts else drop 1 ts)) (bytes_same _ _ (at_word ts rest _ is)) ∙ keyword_reads ts rest _ is
 call_words_reads ts rest (inr (a, inl is, more)) =
@@ -193,7 +193,7 @@ call_words_reads ts rest (inr (a, inl is, more)) =
 call_words_reads ts rest (inr (a, inr is, more)) =
     ap (λ w. keyword (codes "call") (if bytes_eq w (codes "call") then ts else drop 1 ts)) (at_word ts a _ is) ∙ ap (keyword (codes "call")) (behind_first ts a is.0 is.1) ∙ keyword_reads a rest _ more
 
-callee_of_reads : (w : ℕ) (f : Callee) → 1 ≤ w → w ≤ 32 → IsCallee f → callee_of w (name_of f ++ (codes "i" ++ decimal w)) ≡ Some f
+pub callee_of_reads : (w : ℕ) (f : Callee) → 1 ≤ w → w ≤ 32 → IsCallee f → callee_of w (name_of f ++ (codes "i" ++ decimal w)) ≡ Some f
 unfolding callee_of behind
 callee_of_reads w (callee.Bin bin.Smin) some few valid = rw (width_of_reads w some few, eq-eqb w w refl) refl
 callee_of_reads w (callee.Bin bin.Smax) some few valid = rw (width_of_reads w some few, eq-eqb w w refl) refl
@@ -202,12 +202,12 @@ callee_of_reads w (callee.Bin bin.Umax) some few valid = rw (width_of_reads w so
 callee_of_reads w callee.Abs some few valid = rw (width_of_reads w some few, eq-eqb w w refl) refl
 callee_of_reads w (callee.Bin kind) some few valid = absurd (true≢false (sym valid))
 
-called_reads : (w : ℕ) (f : Callee) (ts rest : List Tok) → 1 ≤ w → w ≤ 32 → IsCallee f → IsNameOf kinds.Global (name_of f ++ (codes "i" ++ decimal w)) ts rest → called w ts ≡ Done f rest
+pub called_reads : (w : ℕ) (f : Callee) (ts rest : List Tok) → 1 ≤ w → w ≤ 32 → IsCallee f → IsNameOf kinds.Global (name_of f ++ (codes "i" ++ decimal w)) ts rest → called w ts ≡ Done f rest
 unfolding called callee_at
 called_reads w f ts rest some few valid is =
     take_some_reads _ _ ts rest is.1 (if_reads (kind_at kinds.Global ts) _ _ (kind_there ts rest kinds.Global _ is) (ap (callee_of w) (at_name ts rest kinds.Global _ is) ∙ callee_of_reads w f some few valid))
 
-close_call_reads : (ts rest : List Tok) → ClosesCall ts rest → close_call ts ≡ Done (tt {0}) rest
+pub close_call_reads : (ts rest : List Tok) → ClosesCall ts rest → close_call ts ≡ Done (tt {0}) rest
 unfolding close_call group_at
 close_call_reads ts rest (a, closes, inl (t, e, (k, plain))) = then_reads _ _ (mark_reads ts a 41 closes) (rw e (rw (k, plain) refl))
 close_call_reads ts [] (a, closes, inr (e, none)) = then_reads _ _ (mark_reads ts a 41 closes) (rw e refl)
@@ -219,18 +219,18 @@ close_call_reads ts (t ∷ rest) (a, closes, inr (e, none)) = then_reads _ _ (ma
     go true true is debug = rw (is, debug) refl
     go false debug other d = rw other refl
 
-value_call_reads : (f : Callee) (w : ℕ) (first : Operand) (computed : Op) (ts a b rest : List Tok) → IsCallee f → BeginsCall (name_of f) w first ts a → last_argument f w first a ≡ Done computed b → ClosesCall b rest
+pub value_call_reads : (f : Callee) (w : ℕ) (first : Operand) (computed : Op) (ts a b rest : List Tok) → IsCallee f → BeginsCall (name_of f) w first ts a → last_argument f w first a ≡ Done computed b → ClosesCall b rest
     → value_call ts ≡ Done computed rest
 unfolding value_call
 value_call_reads f w first computed ts a b rest valid (c, d, e, g, h, call, t, named, opens, x, comma) last closes =
     then_reads _ _ (call_words_reads ts c call) (then_reads _ _ (width_reads c d w t) (then_reads _ _ (called_reads w f d e t.1 t.2 valid named) (then_reads _ _ (mark_reads e g 40 opens)
     (then_reads _ _ (of_width_reads w first g h x) (then_reads _ _ (mark_reads h a 44 comma) (then_reads _ _ last (then_reads _ _ (close_call_reads b rest closes) refl)))))))
 
-last_of_two_reads : (kind : BinKind) (w : ℕ) (left right : Operand) (ts rest : List Tok) → IsTyped w right ts rest → last_argument (callee.Bin kind) w left ts ≡ Done (op.Bin kind no_flags w left right) rest
+pub last_of_two_reads : (kind : BinKind) (w : ℕ) (left right : Operand) (ts rest : List Tok) → IsTyped w right ts rest → last_argument (callee.Bin kind) w left ts ≡ Done (op.Bin kind no_flags w left right) rest
 unfolding last_argument
 last_of_two_reads kind w left right ts rest t = then_reads _ _ (of_width_reads w right ts rest t) refl
 
-last_of_abs_reads : (w n : ℕ) (arg : Operand) (ts a rest : List Tok) → IsType 1 ts a → IsLiteral 1 n a rest → last_argument callee.Abs w arg ts ≡ Done (op.Abs w arg (eqb n 1)) rest
+pub last_of_abs_reads : (w n : ℕ) (arg : Operand) (ts a rest : List Tok) → IsType 1 ts a → IsLiteral 1 n a rest → last_argument callee.Abs w arg ts ≡ Done (op.Abs w arg (eqb n 1)) rest
 unfolding last_argument
 last_of_abs_reads w n arg ts a rest t l = then_reads _ _ (one_width_reads ts a 1 t) (then_reads _ _ (literal_reads a rest 1 n l) refl)
 
@@ -254,7 +254,7 @@ selected : (word : List ℕ) → word ≡ codes "select" → (binary_of word ≡
 unfolding binary_of cast_of
 selected word is = (ap binary_of is, ap cast_of is)
 
-call_reads : (ts a rest : List Tok) (computed : Op) → IsCall ts a → value_call ts ≡ Done computed rest → operation ts ≡ Done computed rest
+pub call_reads : (ts a rest : List Tok) (computed : Op) → IsCall ts a → value_call ts ≡ Done computed rest → operation ts ≡ Done computed rest
 unfolding operation
 call_reads ts a rest computed call e =
     let w = call_word ts a call in
@@ -262,7 +262,7 @@ call_reads ts a rest computed call e =
     (else_reads (bytes_eq (word_at ts) (codes "icmp")) _ _ w.no_compare (else_reads (bytes_eq (word_at ts) (codes "select")) _ _ w.no_select
     (if_reads (is_call_word (word_at ts)) _ _ w.calls e))))
 
-bin_op_reads : (called : Bool) (kind : BinKind) (f : Flags) (w : ℕ) (left right : Operand) (ts rest : List Tok) → is_called kind ≡ called → SpellsBin called kind f w left right ts rest
+pub bin_op_reads : (called : Bool) (kind : BinKind) (f : Flags) (w : ℕ) (left right : Operand) (ts rest : List Tok) → is_called kind ≡ called → SpellsBin called kind f w left right ts rest
     → operation ts ≡ Done (op.Bin kind f w left right) rest
 unfolding operation
 bin_op_reads false kind f w left right ts rest plain (a, b, c, word, fs, l, r) =

@@ -1,5 +1,5 @@
 -- What an answer says of the trees that the tokens spell.
-use Rattle.std.proofs.Common.{◌≡◌, ◌≤◌, suc, Bool, true, false, leb, List, [], ◌∷◌, ◌++◌, length, drop, Result, Ok, Err, IfOk, refl, sym, ap, ◌∙◌, subst, arith, leb-true, leb-false, length-append, append_assoc}
+use Rattle.std.proofs.Common.{◌≡◌, ◌≤◌, suc, Bool, true, false, leb, List, [], ◌∷◌, ◌++◌, length, drop, Result, Ok, Err, IfOk, refl, sym, ap, ◌∙◌, subst, arith, leb-true, leb-false, length-append, append_assoc, append-nil, ◌+◌, ℕ}
 use Rattle.ll_tree.specs.declared.func.Func.{Func}
 use Rattle.ll_grammar.specs.declared.stop.Stop.{Stop}
 use Rattle.ll_grammar.specs.declared.stop.Stop.TheVariants as stop
@@ -8,11 +8,13 @@ use Rattle.ll_grammar.specs.Tokens.{Tok, AreNamed}
 use Rattle.ll_grammar.specs.Reading.{Read, Done, Fault, RanOut, Gives}
 use Rattle.ll_grammar.specs.Header.{function}
 use Rattle.ll_grammar.specs.Spells.{SpellsFunction}
-use Rattle.ll_grammar.specs.Sentences.{IsAnswerFor, HasNoFault, StopsAt, Stops}
+use Rattle.ll_grammar.specs.Sentences.{IsAnswerFor, HasNoFault, BeginsSome, StopsAt, Stops}
 use Rattle.ll_grammar.specs.declared.stop.Refusal.{Refusal}
 use Rattle.ll_grammar.proofs.EarlyLaws.{Early, left_of, first_or}
+use Rattle.ll_grammar.proofs.CompletionLaws.{Older, Ends}
+use Rattle.ll_grammar.proofs.CompletionHeaderLaws.{comp_function}
 use Rattle.ll_grammar.proofs.EarlyHeaderLaws.{early_function}
-use Rattle.ll_grammar.proofs.DoneLaws.{Holds, when_done}
+use Rattle.ll_grammar.proofs.DoneLaws.{Holds, OnDone, when_done}
 use Rattle.ll_grammar.proofs.HeaderLaws.{function_sound}
 use Rattle.ll_grammar.proofs.FormedLaws.{function_formed}
 use Rattle.ll_grammar.proofs.HeaderReadLaws.{function_reads}
@@ -81,6 +83,37 @@ fault_first fault front t rest e more left other stops = go left (subst (λ q. E
             let both : Fault fault (t ∷ rest) ≡ Fault other (u ∷ (w.0 ++ t ∷ rest)) = sym e ∙ ap function whole ∙ same (w.0 ++ t ∷ rest) in
             absurd (omega (arith, ap (λ q. length (left_of q)) both, length-append w.0 (t ∷ rest)))
 
+-- a line that no token stands in
+newest : List Tok → ℕ
+newest [] = 0
+newest (t ∷ ts) = suc (t.line + newest ts)
+
+older_than : (n : ℕ) (ts : List Tok) → newest ts ≤ n → Older n ts
+unfolding newest
+older_than n [] old = tt
+older_than n (t ∷ ts) old = ((λ same. omega (arith, old, same)), older_than n ts (omega (arith, old)))
+
+completed : (ts : List Tok) → Ends (function ts) → BeginsSome ts
+completed [] ends = let s = (comp_function 0).starts in (s.more ++ [], s.value, (when_done (function_sound (s.more ++ [])) (s.reads [] refl)).0)
+completed (t ∷ ts) ends =
+    let n = newest (t ∷ ts) in
+    let w = ((comp_function n).completes (suc (length ts))).finish t ts (omega arith) (older_than n (t ∷ ts) (omega arith)) ends in
+    (w.more ++ [], w.value, (when_done (function_sound (t ∷ (ts ++ (w.more ++ [])))) (w.reads [] refl)).0)
+
+-- tokens without a fault begin some function
+no_fault_begins : (ts : List Tok) → HasNoFault ts → BeginsSome ts
+no_fault_begins ts none = completed ts (go (function ts) refl (function_sound ts) (early_function.early ts))
+  where
+    at_end : (func : Func) (l : List Tok) → l ≡ [] → Ends (Done func l)
+    at_end func [] here = tt
+    at_end func (t ∷ l) here = absurd (omega (arith, ap length here))
+
+    go : (r : Read Func) → function ts ≡ r → OnDone r (λ f rest. SpellsFunction f ts × (rest ≡ [])) → Early function ts r → Ends r
+    go (Done func l) e sound early = at_end func l sound.holds.1
+    go (Fault fault []) e sound early = early.0
+    go (Fault fault (t ∷ l)) e sound early = absurd (omega (arith, none [] (t ∷ l) fault (ap function (append-nil ts) ∙ e)))
+    go RanOut e sound early = tt
+
 stops_at : (fault : Refusal) (left ts : List Tok) → function ts ≡ Fault fault left → Early function ts (Fault fault left) → StopsAt fault ts left
 stops_at fault [] ts e early = absurd early.0
 stops_at fault (t ∷ rest) ts e (stands, (front, is, same)) = record {
@@ -90,14 +123,18 @@ stops_at fault (t ∷ rest) ts e (stands, (front, is, same)) = record {
   whole = is;
   stands = refl;
   never = λ func others spells. done_no_fault func [] (Fault fault (t ∷ others)) (sym (function_reads func (front ++ t ∷ others) spells) ∙ same others) tt;
+  begins = no_fault_begins front (fault_first fault front t rest (ap function (sym is) ∙ e));
   first = fault_first fault front t rest (ap function (sym is) ∙ e);
   early = same;
 }
 
+ran_out_no_fault : (ts : List Tok) → function ts ≡ RanOut → HasNoFault ts
+ran_out_no_fault ts e more left fault stops = no_fault ts more left fault e (subst (λ q. Early function (ts ++ more) q) stops (early_function.early (ts ++ more)))
+
 pub stops_by : (result : Result Func Stop) (left ts : List Tok) → Gives result left (function ts) → Stops result ts left
 stops_by (Ok f) left ts e = tt
 stops_by (Err (stop.Refused fault)) left ts e = stops_at fault left ts e (subst (λ q. Early function ts q) e (early_function.early ts))
-stops_by (Err stop.RanOut) left ts e = λ more left fault stops. no_fault ts more left fault e (subst (λ q. Early function (ts ++ more) q) stops (early_function.early (ts ++ more)))
+stops_by (Err stop.RanOut) left ts e = let none = ran_out_no_fault ts e in (none, no_fault_begins ts none)
 stops_by (Err stop.NoMemory) left ts e = tt
 
 -- tokens spell one tree at most

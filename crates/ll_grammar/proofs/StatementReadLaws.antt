@@ -40,19 +40,19 @@ metadata_within_reads (suc n) (suc most) ts rest few (c, m, k, a, is, ck, ct, mk
     (then_reads _ _ (ap metadatum (behind_first ts (m ∷ k ∷ a) c is) ∙ metadatum_reads (m ∷ k ∷ a) (k ∷ a) m refl mk) (then_reads _ _ (metadatum_reads (k ∷ a) a k refl kk)
     (metadata_within_reads n most a rest (omega (arith, few)) more none)))
 
-metadata_reads : (n : ℕ) (ts rest : List Tok) → AreMetadata n ts rest → mark_at 44 rest ≡ false → metadata ts ≡ Done (tt {0}) rest
+pub metadata_reads : (n : ℕ) (ts rest : List Tok) → AreMetadata n ts rest → mark_at 44 rest ≡ false → metadata ts ≡ Done (tt {0}) rest
 unfolding metadata
 metadata_reads n ts rest are none = metadata_within_reads n (length ts) ts rest (omega (arith, metadata_take n ts rest are)) are none
 
 -- ---- phis
 
-entry_reads : (w : ℕ) (e : PhiEntry) (ts rest : List Tok) → SpellsEntry w e ts rest → entry w ts ≡ Done e rest
+pub entry_reads : (w : ℕ) (e : PhiEntry) (ts rest : List Tok) → SpellsEntry w e ts rest → entry w ts ≡ Done e rest
 unfolding entry
 entry_reads w e ts rest (a, b, c, d, opens, x, comma, from, closes) =
     then_reads _ _ (mark_reads ts a 91 opens) (then_reads _ _ (operand_reads w e.value a b x) (then_reads _ _ (mark_reads b c 44 comma)
     (then_reads _ _ (name_reads c d kinds.Local place.Other e.from from) (then_reads _ _ (mark_reads d rest 93 closes) refl))))
 
-another_follows : (ts a b : List Tok) → IsMark 44 ts a → IsMark 91 a b → another ts ≡ Done true a
+pub another_follows : (ts a b : List Tok) → IsMark 44 ts a → IsMark 91 a b → another ts ≡ Done true a
 unfolding another behind_comma
 another_follows ts a b comma opens =
     if_reads (mark_at 44 ts) _ _ (mark_there ts a 44 comma) (ap behind_comma (behind_first ts a comma.0 comma.1) ∙ if_reads (mark_at 91 a) _ _ (mark_there a b 91 opens) refl)
@@ -73,7 +73,7 @@ another_ends (suc n) ts rest (c, m, k, a, is, ck, ct, mk, kk, more) none = (
   more,
 )
 
-entries_reads : (es : List PhiEntry) (w most : ℕ) (so_far : List PhiEntry) (ts b rest : List Tok) (n : ℕ) → length ts ≤ most → SpellEntries w es ts b → AreMetadata n b rest → mark_at 44 rest ≡ false
+pub entries_reads : (es : List PhiEntry) (w most : ℕ) (so_far : List PhiEntry) (ts b rest : List Tok) (n : ℕ) → length ts ≤ most → SpellEntries w es ts b → AreMetadata n b rest → mark_at 44 rest ≡ false
     → Leaves (entries w most so_far ts) (so_far ++ es) rest
 unfolding entries
 entries_reads [] w most so_far ts b rest n few none meta no_comma = absurd none
@@ -94,7 +94,7 @@ entries_reads (e ∷ next ∷ es) w (suc most) so_far ts b rest n few (a, c, is,
     opens [] is = (is.0, is.4)
     opens (other ∷ es) is = (is.2.0, is.2.4)
 
-phi_reads : (p : Phi) (ts a b rest : List Tok) (n : ℕ) → IsType p.width ts a → SpellEntries p.width p.entries a b → AreMetadata n b rest → mark_at 44 rest ≡ false → Leaves (phi p.name ts) p rest
+pub phi_reads : (p : Phi) (ts a b rest : List Tok) (n : ℕ) → IsType p.width ts a → SpellEntries p.width p.entries a b → AreMetadata n b rest → mark_at 44 rest ≡ false → Leaves (phi p.name ts) p rest
 unfolding phi
 phi_reads p ts a b rest n t es meta no_comma =
     let l = entries_reads p.entries p.width (length a) [] a b rest n (omega arith) es meta no_comma in
@@ -123,13 +123,13 @@ assigned_op first r computed a b rest valued equals is =
     no_phi true = operation_word computed b rest valued is
     no_phi false = refl
 
-named_reads : (first : Bool) (r : List ℕ) (ts a : List Tok) → IsNameOf kinds.Local r ts a → bare_statement first ts ≡ assignment first r a
+pub named_reads : (first : Bool) (r : List ℕ) (ts a : List Tok) → IsNameOf kinds.Local r ts a → bare_statement first ts ≡ assignment first r a
 unfolding bare_statement
 named_reads first r ts a named =
     if_reads (kind_at kinds.Local ts) _ _ (kind_there ts a kinds.Local r named)
     (ap (λ (n : List ℕ). assignment first n (drop 1 ts)) (at_name ts a kinds.Local r named) ∙ ap (assignment first r) (behind_first ts a named.0 named.1))
 
-assumed_reads : (first : Bool) (x : Operand) (ts rest : List Tok) → SpellsOp (op.Assume x) ts rest → bare_statement first ts ≡ Done (item.Instr (record { name = []; op = op.Assume x })) rest
+pub assumed_reads : (first : Bool) (x : Operand) (ts rest : List Tok) → SpellsOp (op.Assume x) ts rest → bare_statement first ts ≡ Done (item.Instr (record { name = []; op = op.Assume x })) rest
 unfolding bare_statement
 assumed_reads first x ts rest is =
     let w = call_is_word ts is.0 is.5 in
@@ -145,14 +145,14 @@ no_call (end.Br to) = refl
 no_call (end.CondBr x left right) = refl
 no_call (end.Switch w x default cs) = refl
 
-end_reads : (first : Bool) (e : End) (ts rest : List Tok) → SpellsEnd e ts rest → bare_statement first ts ≡ Done (item.End e) rest
+pub end_reads : (first : Bool) (e : End) (ts rest : List Tok) → SpellsEnd e ts rest → bare_statement first ts ≡ Done (item.End e) rest
 unfolding bare_statement
 end_reads first e ts rest is =
     let w = end_word e ts rest is in
     else_reads (kind_at kinds.Local ts) _ _ (at_kind ts w.0 w.1.0 w.1.1 kinds.Word w.1.2 kinds.Local)
     (else_reads (is_call_word (word_at ts)) _ _ (ap is_call_word (at_word ts w.0 _ w.1) ∙ no_call e) (then_reads _ _ (terminator_reads e ts rest is) refl))
 
-instr_reads : (first : Bool) (r : List ℕ) (computed : Op) (ts rest : List Tok) → SpellsResultOf r computed ts rest → bare_statement first ts ≡ Done (item.Instr (record { name = r; op = computed })) rest
+pub instr_reads : (first : Bool) (r : List ℕ) (computed : Op) (ts rest : List Tok) → SpellsResultOf r computed ts rest → bare_statement first ts ≡ Done (item.Instr (record { name = r; op = computed })) rest
 instr_reads first r (op.Assume x) ts rest (name, is) = assumed_reads first x ts rest is ∙ ap (λ (n : List ℕ). Done (item.Instr (record { name = n; op = op.Assume x })) rest) (sym name)
 instr_reads first r (op.Bin kind f w left right) ts rest (a, b, named, equals, is) = named_reads first r ts a named ∙ assigned_op first r (op.Bin kind f w left right) a b rest tt equals is
 instr_reads first r (op.Cmp p f w left right) ts rest (a, b, named, equals, is) = named_reads first r ts a named ∙ assigned_op first r (op.Cmp p f w left right) a b rest tt equals is
@@ -160,7 +160,7 @@ instr_reads first r (op.Cast kind f from arg to) ts rest (a, b, named, equals, i
 instr_reads first r (op.Select w x left right) ts rest (a, b, named, equals, is) = named_reads first r ts a named ∙ assigned_op first r (op.Select w x left right) a b rest tt equals is
 instr_reads first r (op.Abs w arg strict) ts rest (a, b, named, equals, is) = named_reads first r ts a named ∙ assigned_op first r (op.Abs w arg strict) a b rest tt equals is
 
-bare_statement_reads : (first : Bool) (it : Item) (ts a rest : List Tok) (n : ℕ) → SpellsItem first it ts a → AreMetadata n a rest → mark_at 44 rest ≡ false → Leaves (bare_statement first ts) it rest
+pub bare_statement_reads : (first : Bool) (it : Item) (ts a rest : List Tok) (n : ℕ) → SpellsItem first it ts a → AreMetadata n a rest → mark_at 44 rest ≡ false → Leaves (bare_statement first ts) it rest
 bare_statement_reads first (item.Phi p) ts a rest n (may, (b, c, d, e, named, equals, word, t, es)) meta no_comma =
     let l = assigned_phi p b rest n c d e a equals word t es meta no_comma in
     (l.0, l.1, named_reads first p.name ts b named ∙ ap (λ f. assignment f p.name b) may ∙ l.2, l.3)
@@ -184,7 +184,7 @@ first_line : (t : Tok) (a : List Tok) → behind_line (line_at (t ∷ a)) a ≡ 
 unfolding line_at
 first_line t a = refl
 
-passed_within_reads : (n most : ℕ) (ts rest : List Tok) → n ≤ most → ArePassed n ts rest → debug_at rest ≡ false → passed_within most ts ≡ rest
+pub passed_within_reads : (n most : ℕ) (ts rest : List Tok) → n ≤ most → ArePassed n ts rest → debug_at rest ≡ false → passed_within most ts ≡ rest
 unfolding passed_within
 passed_within_reads zero zero ts rest few here none = here
 passed_within_reads zero (suc most) ts rest few here none = else_reads (debug_at ts) _ _ (ap debug_at here ∙ none) here

@@ -18,14 +18,19 @@ IsAnswerFor (Err why) func = why ≡ stop.NoMemory
 abbrev pub HasNoFault : List Tok → Type 0
 HasNoFault tokens = (more left : List Tok) (fault : Refusal) → function (tokens ++ more) ≡ Fault fault left → length left ≤ length more
 
--- The fault stands at the first of the tokens left, and none before it. No tokens that begin with those up to it spell a
--- function, and on all of them reading stops there with this fault.
+-- Some function begins with these tokens.
+abbrev pub BeginsSome : List Tok → Type 0
+BeginsSome tokens = (others : List Tok) × (func : Func) × SpellsFunction func (tokens ++ others)
+
+-- The fault stands at the first of the tokens left: those before it begin some function, and with it they begin none. On all
+-- tokens that begin so reading stops there with this fault, and no other stands before it.
 pub record StopsAt (fault : Refusal) (tokens left : List Tok) : Type 0 where
   pub front : List Tok
   pub token : Tok
   pub behind : List Tok
   pub whole : tokens ≡ front ++ token ∷ behind
   pub stands : left ≡ token ∷ behind
+  pub begins : BeginsSome front
   pub never : (func : Func) (others : List Tok) → SpellsFunction func (front ++ token ∷ others) → ⊥
   pub first : HasNoFault front
   pub early : (others : List Tok) → function (front ++ token ∷ others) ≡ Fault fault (token ∷ others)
@@ -33,5 +38,5 @@ pub record StopsAt (fault : Refusal) (tokens left : List Tok) : Type 0 where
 -- where a token is refused, or the tokens ended too early
 abbrev pub Stops : Result Func Stop → (tokens left : List Tok) → Type 0
 Stops (Err (stop.Refused fault)) tokens left = StopsAt fault tokens left
-Stops (Err stop.RanOut) tokens left = HasNoFault tokens
+Stops (Err stop.RanOut) tokens left = HasNoFault tokens × BeginsSome tokens
 Stops answer tokens left = Unit {0}
