@@ -1,6 +1,5 @@
 -- What is read of blocks is what spells them.
-use Rattle.std.proofs.Common.{◌≡◌, ◌⊎◌, ℕ, zero, suc, Bool, true, false, List, [], ◌∷◌, ◌++◌, length, drop, refl, sym, ap, ◌∙◌, subst, inl, inr, true≢false, append_assoc, append-nil, ◌≤◌, arith}
-use Rattle.std.specs.Prelude.{if◌then◌else◌}
+use Rattle.std.proofs.Common.{◌≡◌, ℕ, zero, suc, true, false, List, [], ◌∷◌, ◌++◌, length, drop, refl, sym, ap, ◌∙◌, subst, inl, inr, true≢false, append_assoc, append-nil, ◌≤◌, arith}
 use Rattle.ll_token.specs.declared.token.TokenKind.TheVariants as kinds
 use Rattle.ll_tree.specs.declared.block.Block.{Block}
 use Rattle.ll_tree.specs.declared.block.Phi.{Phi}
@@ -10,7 +9,7 @@ use Rattle.ll_grammar.specs.declared.block.Item.{Item}
 use Rattle.ll_grammar.specs.declared.block.Item.TheVariants as item
 use Rattle.ll_grammar.specs.declared.stop.Place.TheVariants as place
 use Rattle.ll_grammar.specs.Tokens.{Tok, is_empty, kind_at, name_at}
-use Rattle.ll_grammar.specs.Reading.{Read, Done, RanOut}
+use Rattle.ll_grammar.specs.Reading.{Read}
 use Rattle.ll_grammar.specs.Blocks.{passed, block_step, block_within, block, entry_block, labelled_block, blocks_within, blocks}
 use Rattle.ll_grammar.specs.Spells.{IsNameOf, ArePassed, IsStatement, SpellsPhi, SpellsInstr, SpellsEnd, SpellPhis, SpellInstrs, SpellsBlock, SpellBlocks, SpellsEntryBlock, SpellBody}
 use Rattle.ll_grammar.proofs.DoneLaws.{OnDone, on_done, on_ran_out, on_then, on_if, weaken}

@@ -1,20 +1,19 @@
 -- What spells blocks is read as them.
-use Rattle.std.proofs.Common.{◌≡◌, ◌⊎◌, ◌<◌, ◌≤◌, ℕ, zero, suc, Bool, true, false, ◌&&◌, List, [], ◌∷◌, ◌++◌, length, drop, refl, sym, ap, ◌∙◌, subst, inl, inr, arith, append_assoc, append-nil}
+use Rattle.std.proofs.Common.{◌≡◌, ◌≤◌, ℕ, zero, suc, true, false, ◌&&◌, List, [], ◌∷◌, ◌++◌, length, drop, refl, sym, ap, ◌∙◌, subst, inl, inr, arith, append_assoc, append-nil}
 use Rattle.ll_token.specs.declared.token.TokenKind.TheVariants as kinds
 use Rattle.ll_tree.specs.declared.block.Block.{Block}
 use Rattle.ll_tree.specs.declared.block.Phi.{Phi}
 use Rattle.ll_tree.specs.declared.block.Instr.{Instr}
 use Rattle.ll_tree.specs.declared.block.End.{End}
-use Rattle.ll_grammar.specs.declared.block.Item.{Item}
 use Rattle.ll_grammar.specs.declared.block.Item.TheVariants as item
 use Rattle.ll_grammar.specs.declared.stop.Place.TheVariants as place
-use Rattle.ll_grammar.specs.Tokens.{Tok, is_empty, mark_at, kind_at, name_at, debug_at, is_debug, starts_debug}
-use Rattle.ll_grammar.specs.Reading.{Read, Done}
-use Rattle.ll_grammar.specs.Blocks.{passed, block_step, block_within, block, entry_block, labelled_block, blocks_within, blocks}
-use Rattle.ll_grammar.specs.Spells.{IsNameOf, ArePassed, IsStatement, SpellsPhi, SpellsInstr, SpellsEnd, SpellPhis, SpellInstrs, SpellsBlock, SpellBlocks, SpellsEntryBlock, SpellBody}
+use Rattle.ll_grammar.specs.Tokens.{Tok, is_empty, mark_at, kind_at, name_at, debug_at, starts_debug}
+use Rattle.ll_grammar.specs.Reading.{Done}
+use Rattle.ll_grammar.specs.Blocks.{passed, block_within, block, entry_block, labelled_block, blocks_within, blocks}
+use Rattle.ll_grammar.specs.Spells.{IsNameOf, IsStatement, SpellsPhi, SpellsInstr, SpellsEnd, SpellPhis, SpellInstrs, SpellsBlock, SpellBlocks, SpellsEntryBlock, SpellBody}
 use Rattle.ll_grammar.proofs.StatementLaws.{SpellsItem}
 use Rattle.ll_grammar.proofs.LengthLaws.{statement_takes, phi_takes, instr_takes, end_takes, block_takes}
-use Rattle.ll_grammar.proofs.TokenReadLaws.{then_reads, if_reads, else_reads, behind_first, at_kind, at_mark, at_name, kind_there, name_reads}
+use Rattle.ll_grammar.proofs.TokenReadLaws.{then_reads, if_reads, else_reads, behind_first, at_mark, at_name, kind_there, name_reads}
 use Rattle.ll_grammar.proofs.StatementReadLaws.{passed_reads, item_no_label, statement_no_comma, statement_reads}
 
 -- ---- one block

@@ -1,6 +1,6 @@
 -- Tokens that begin statements and blocks can be completed to them.
-use Rattle.std.proofs.Common.{◌≡◌, ◌+◌, ◌<◌, ◌≤◌, ℕ, zero, suc, Bool, true, false, ◌&&◌, List, [], ◌∷◌, ◌++◌, length, drop, refl, sym, ap, ◌∙◌, subst, arith, append_assoc, true≢false}
-use Rattle.std.specs.Prelude.{codes, if◌then◌else◌, All}
+use Rattle.std.proofs.Common.{◌≡◌, ◌≤◌, ℕ, zero, suc, Bool, false, ◌&&◌, List, [], ◌∷◌, ◌++◌, length, drop, refl, sym, ap, ◌∙◌, subst, arith, append_assoc}
+use Rattle.std.specs.Prelude.{codes, if◌then◌else◌}
 use Rattle.std.specs.Str.{bytes_eq}
 use Rattle.ll_token.specs.declared.token.TokenKind.TheVariants as kinds
 use Rattle.ll_tree.specs.declared.block.Block.{Block}
@@ -21,10 +21,10 @@ use Rattle.ll_grammar.proofs.StatementLaws.{SpellsItem, metadatum_sound, passed_
 use Rattle.ll_grammar.proofs.BlockLaws.{labelled_block_sound}
 use Rattle.ll_grammar.proofs.LengthLaws.{statement_takes, block_takes}
 use Rattle.ll_grammar.proofs.StatementReadLaws.{passed_reads, end_reads, statement_reads}
-use Rattle.ll_grammar.proofs.EarlyLaws.{Looks, early_taken, early_then, early_behind, early_within, settles_from}
-use Rattle.ll_grammar.proofs.EarlyFormLaws.{looks_mark, looks_kind, looks_name, looks_of_word, looks_nothing, early_mark, early_name, early_metadatum, early_operation, early_assume, early_phi, early_terminator, then_same, if_same}
-use Rattle.ll_grammar.proofs.EarlyBlockLaws.{metadata_settle, early_metadata, early_passes, early_bare_statement, early_statement, item_takes, block_settle, early_block, early_entry_block, early_labelled_block, blocks_settle, looks_empty}
-use Rattle.ll_grammar.proofs.CompletionLaws.{always_done, token, Older, older_behind, Ends, Finish, Any, FirstIs, Always, Starts, Completes, Comp, comp_weak, comp_less, seq, seq_any, comp_done, comp_of, completes_if, completes_done, completes_taken, completes_same, completes_zero, completes_behind, completes_both, completes_weak, starts_done, starts_then, starts_same, starts_weak, starts_else}
+use Rattle.ll_grammar.proofs.EarlyLaws.{early_taken, early_behind, settles_from}
+use Rattle.ll_grammar.proofs.EarlyFormLaws.{looks_mark, looks_kind, looks_name, looks_of_word, early_mark, early_name, early_metadatum, early_operation, early_assume, early_phi, early_terminator, then_same, if_same}
+use Rattle.ll_grammar.proofs.EarlyBlockLaws.{metadata_settle, early_metadata, early_passes, early_bare_statement, early_statement, item_takes, block_settle, early_entry_block, early_labelled_block, blocks_settle, looks_empty}
+use Rattle.ll_grammar.proofs.CompletionLaws.{always_done, token, Older, older_behind, Ends, Finish, Any, FirstIs, Always, Starts, Completes, Comp, comp_weak, seq, seq_any, comp_done, comp_of, completes_if, completes_done, completes_taken, completes_same, completes_zero, completes_behind, completes_both, starts_done, starts_then, starts_weak, starts_else}
 use Rattle.ll_grammar.proofs.CompletionFormLaws.{word, sign, comp_mark, comp_name, comp_metadatum}
 use Rattle.ll_grammar.proofs.CompletionOpLaws.{NoGroup, NoComma, comp_assume, comp_operation, comp_phi, comp_terminator}
 

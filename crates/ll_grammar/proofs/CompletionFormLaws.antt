@@ -1,6 +1,6 @@
 -- Tokens that begin the form of an instruction can be completed to it.
-use Rattle.std.proofs.Common.{◌≡◌, ◌+◌, ◌<◌, ◌≤◌, ℕ, zero, suc, Bool, true, false, List, [], ◌∷◌, ◌++◌, length, drop, Option, Some, None, refl, sym, ap, ◌∙◌, subst, arith, eq-eqb, lt-ltb, pow_pos, cond}
-use Rattle.std.specs.Prelude.{codes, ◌==◌, ◌^◌, if◌then◌else◌}
+use Rattle.std.proofs.Common.{◌≡◌, ◌≤◌, ℕ, zero, suc, List, [], ◌∷◌, ◌++◌, length, drop, Some, None, refl, ap, ◌∙◌, arith, eq-eqb, lt-ltb, pow_pos, cond}
+use Rattle.std.specs.Prelude.{codes, ◌^◌}
 use Rattle.std.specs.Option.{option_map_or}
 use Rattle.std.specs.Str.{bytes_eq}
 use Rattle.std.specs.Fmt.{decimal}
@@ -11,23 +11,20 @@ use Rattle.ll_tree.specs.declared.block.Operand.TheVariants as value
 use Rattle.ll_tree.specs.declared.op.Flags.{Flags}
 use Rattle.ll_tree.specs.declared.op.BinKind.{BinKind}
 use Rattle.ll_tree.specs.declared.op.CastKind.{CastKind}
-use Rattle.ll_tree.specs.declared.op.CastKind.TheVariants as cast
 use Rattle.ll_tree.specs.declared.op.Op.TheVariants as op
 use Rattle.ll_tree.specs.declared.op.Pred.TheVariants as pred
-use Rattle.ll_grammar.specs.declared.opcodes.Callee.{Callee}
-use Rattle.ll_grammar.specs.declared.opcodes.Callee.TheVariants as callee
 use Rattle.ll_grammar.specs.declared.stop.Place.{Place}
 use Rattle.ll_grammar.specs.declared.stop.Place.TheVariants as place
-use Rattle.ll_grammar.specs.Tokens.{Tok, is_kind, word_at, mark_at, kind_at, name_at, group_at, held_name, written}
-use Rattle.ll_grammar.specs.Words.{width_of, digits_width, has_width, literal_of, number_of, value_below, binary_of, cast_of, pred_of, takes, cast_takes, compare_takes, no_flags, add_flag}
-use Rattle.ll_grammar.specs.Reading.{Read, Done, ◌>>=◌, stopped, take_if, take_some, mark, keyword, name, metadatum, width, one_width, literal_at, literal}
+use Rattle.ll_grammar.specs.Tokens.{Tok, word_at, mark_at, kind_at, name_at}
+use Rattle.ll_grammar.specs.Words.{width_of, digits_width, has_width, literal_of, number_of, value_below, pred_of, takes, cast_takes, compare_takes, no_flags, add_flag}
+use Rattle.ll_grammar.specs.Reading.{Read, Done, ◌>>=◌, take_some, mark, keyword, name, metadatum, width, one_width, literal_at, literal}
 use Rattle.ll_grammar.specs.Forms.{operand, typed, of_width, second, target, next_target, flags_within, flags, binary, compare, conversion, select}
 use Rattle.ll_grammar.proofs.DoneLaws.{OnDone, weaken}
 use Rattle.ll_grammar.proofs.TokenLaws.{bytes_same, kind_same, width_of_is, width_of_reads}
 use Rattle.ll_grammar.proofs.FormLaws.{width_sound, typed_sound}
 use Rattle.ll_grammar.proofs.FormReadLaws.{operand_reads}
-use Rattle.ll_grammar.proofs.EarlyLaws.{Looks, early_take_some, settles_from}
-use Rattle.ll_grammar.proofs.EarlyFormLaws.{looks_word, looks_mark, looks_kind, looks_name, looks_literal, looks_of_word, looks_nothing, early_mark, early_keyword, early_name, early_width, early_one_width, early_literal, early_operand, early_typed, early_of_width, early_second, early_target, early_flags, flags_settle, some_same}
+use Rattle.ll_grammar.proofs.EarlyLaws.{early_take_some, settles_from}
+use Rattle.ll_grammar.proofs.EarlyFormLaws.{looks_mark, looks_kind, looks_name, looks_literal, looks_of_word, looks_nothing, early_mark, early_keyword, early_width, early_one_width, early_literal, early_operand, early_typed, early_of_width, early_second, early_flags, flags_settle, some_same}
 use Rattle.ll_grammar.proofs.CompletionLaws.{always_done, token, Any, FirstIs, Always, Starts, Completes, Comp, comp_weak, forget, seq, seq_any, comp_done, comp_take_if, comp_take_some, comp_of, completes_if, completes_some, completes_done, completes_taken, completes_same, completes_zero, completes_behind_less}
 
 abbrev pub word : ℕ → List ℕ → Tok

@@ -1,5 +1,5 @@
 -- Tokens that begin a header, and a function, can be completed to it.
-use Rattle.std.proofs.Common.{◌≡◌, ◌+◌, ◌*◌, ◌^◌, ◌<◌, ◌≤◌, ℕ, zero, suc, Bool, true, false, cond, ltb, ◌||◌, List, [], ◌∷◌, ◌++◌, length, drop, Option, Some, None, refl, sym, ap, ◌∙◌, subst, arith, true≢false, lt-ltb, pow_pos, pow-suc, ne_eqb}
+use Rattle.std.proofs.Common.{◌≡◌, ◌^◌, ◌<◌, ◌≤◌, ℕ, zero, suc, Bool, true, false, ◌||◌, List, [], ◌∷◌, ◌++◌, length, drop, Some, None, refl, ap, ◌∙◌, arith, true≢false, lt-ltb, pow_pos, pow-suc, ne_eqb}
 use Rattle.std.specs.Prelude.{codes, if◌then◌else◌}
 use Rattle.std.specs.Str.{bytes_eq}
 use Rattle.std.specs.Fmt.{decimal}
@@ -13,7 +13,7 @@ use Rattle.ll_grammar.specs.declared.header.ResultType.{ResultType}
 use Rattle.ll_grammar.specs.declared.stop.Place.{Place}
 use Rattle.ll_grammar.specs.declared.stop.Place.TheVariants as place
 use Rattle.ll_grammar.specs.Tokens.{Tok, word_at, mark_at, kind_at, name_at}
-use Rattle.ll_grammar.specs.Words.{width_of, has_width, literal_of, number_of, value_below}
+use Rattle.ll_grammar.specs.Words.{has_width, literal_of, number_of, value_below}
 use Rattle.ll_grammar.specs.Reading.{Read, Done, ◌>>=◌, stopped, take_if, take_some, mark, name, keyword, width, one_width, literal_at, literal}
 use Rattle.ll_grammar.specs.Header.{is_among, words_within, words, other_literal, bounds, range_at, ret_type, ranged_result, result_type, param_range, param_type, param_of, closing, param, count_unnamed, params_within, params, to_body_within, to_body, function}
 use Rattle.ll_grammar.specs.Blocks.{blocks}
@@ -22,13 +22,13 @@ use Rattle.ll_grammar.proofs.HeaderLaws.{param_sound}
 use Rattle.ll_grammar.proofs.LengthLaws.{param_takes}
 use Rattle.ll_grammar.proofs.TokenReadLaws.{has_width_reads}
 use Rattle.ll_grammar.proofs.HeaderReadLaws.{type_not_among, no_header_type}
-use Rattle.ll_grammar.proofs.EarlyLaws.{IsEarly, Looks, early_take_some, early_taken, early_behind, early_within, settles_from}
+use Rattle.ll_grammar.proofs.EarlyLaws.{IsEarly, early_take_some, early_taken, settles_from}
 use Rattle.ll_grammar.proofs.EarlyFormLaws.{looks_mark, looks_kind, looks_name, looks_of_word, looks_nothing, early_mark, early_keyword, early_name, early_width, early_one_width, early_literal, then_same, if_same}
 use Rattle.ll_grammar.proofs.EarlyHeaderLaws.{words_settle, early_words, looks_other, early_bounds, early_ret_type, early_result_type, early_param_type, early_closing, early_param, params_settle, early_params, to_body_settle, early_to_body}
 use Rattle.ll_grammar.proofs.EarlyBlockLaws.{early_blocks}
 use Rattle.ll_grammar.proofs.CompletionLaws.{and_done, shrinks, always_done, token, Any, FirstIs, Always, Starts, Completes, Comp, comp_weak, forget, seq, seq_any, comp_done, comp_take_if, comp_take_some, comp_of, completes_if, completes_stopped, completes_done, completes_taken, completes_same, completes_zero, completes_behind, completes_behind_less, completes_both, completes_take_if, starts_done, starts_then, starts_same, starts_weak, starts_else}
 use Rattle.ll_grammar.proofs.CompletionFormLaws.{word, sign, IsW, width_fits, comp_mark, comp_keyword, comp_name, comp_width, comp_one_width, comp_literal}
-use Rattle.ll_grammar.proofs.CompletionBlockLaws.{Fresh, Nothing, comp_blocks}
+use Rattle.ll_grammar.proofs.CompletionBlockLaws.{Nothing, comp_blocks}
 
 -- ---- words of a table
 

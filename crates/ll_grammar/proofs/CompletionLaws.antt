@@ -1,9 +1,8 @@
 -- Tokens at which no fault stands can be completed: how a completion of a reading follows from its parts.
-use Rattle.std.proofs.Common.{◌≡◌, ◌+◌, ◌<◌, ◌≤◌, ℕ, zero, suc, Bool, true, false, List, [], ◌∷◌, ◌++◌, length, drop, Option, Some, None, refl, sym, ap, ◌∙◌, subst, arith, append_assoc, append-nil, length-append}
+use Rattle.std.proofs.Common.{◌≡◌, ◌<◌, ◌≤◌, ℕ, suc, Bool, true, false, List, [], ◌∷◌, ◌++◌, length, drop, Option, Some, None, refl, sym, ap, ◌∙◌, subst, arith, append_assoc, length-append}
 use Rattle.std.specs.Prelude.{if◌then◌else◌}
 use Rattle.std.specs.Option.{option_map_or}
 use Rattle.ll_token.specs.declared.token.TokenKind.{TokenKind}
-use Rattle.ll_token.specs.declared.token.TokenKind.TheVariants as kinds
 use Rattle.ll_grammar.specs.declared.stop.Place.{Place}
 use Rattle.ll_grammar.specs.Tokens.{Tok}
 use Rattle.ll_grammar.specs.Reading.{Read, Done, Fault, RanOut, ◌>>=◌, stopped, take_if, take_some}

@@ -1,13 +1,11 @@
 -- Tokens that begin an operation, a phi or a terminator can be completed to it.
-use Rattle.std.proofs.Common.{◌≡◌, ◌+◌, ◌<◌, ◌≤◌, ℕ, zero, suc, Bool, true, false, List, [], ◌∷◌, ◌++◌, length, drop, Option, Some, None, refl, sym, ap, ◌∙◌, subst, inl, inr, arith, true≢false}
+use Rattle.std.proofs.Common.{◌≡◌, ℕ, zero, suc, Bool, true, false, List, [], ◌∷◌, ◌++◌, length, drop, Some, refl, ap, ◌∙◌, inl, arith, true≢false}
 use Rattle.std.specs.Prelude.{codes, ◌==◌, if◌then◌else◌}
 use Rattle.std.specs.Str.{bytes_eq}
 use Rattle.std.specs.Fmt.{decimal}
 use Rattle.ll_token.specs.declared.token.TokenKind.TheVariants as kinds
 use Rattle.ll_tree.specs.declared.block.Operand.{Operand}
-use Rattle.ll_tree.specs.declared.block.Operand.TheVariants as value
 use Rattle.ll_tree.specs.declared.block.Case.{Case}
-use Rattle.ll_tree.specs.declared.block.Phi.{Phi}
 use Rattle.ll_tree.specs.declared.block.PhiEntry.{PhiEntry}
 use Rattle.ll_tree.specs.declared.block.End.TheVariants as end
 use Rattle.ll_tree.specs.declared.op.CastKind.TheVariants as cast
@@ -16,20 +14,19 @@ use Rattle.ll_grammar.specs.declared.opcodes.Callee.{Callee}
 use Rattle.ll_grammar.specs.declared.opcodes.Callee.TheVariants as callee
 use Rattle.ll_grammar.specs.declared.stop.Place.TheVariants as place
 use Rattle.ll_grammar.specs.Tokens.{Tok, word_at, mark_at, kind_at, name_at, group_at, held_name, written}
-use Rattle.ll_grammar.specs.Words.{width_of, binary_of, cast_of, callee_of, no_flags}
-use Rattle.ll_grammar.specs.Reading.{Read, Done, ◌>>=◌, stopped, take_if, take_some, mark, keyword, name, metadatum, width, one_width, literal}
-use Rattle.ll_grammar.specs.Forms.{operand, typed, of_width, next_target, target, binary, compare, conversion, select, is_call_word, call_words, callee_at, called, last_argument, close_call, value_call, assume_at, assume_callee, void, assume, operation, entry, behind_comma, another, entries_behind, entries, phi, return_value, branch, case, cases, switch, terminator}
-use Rattle.ll_grammar.proofs.DoneLaws.{OnDone, weaken}
-use Rattle.ll_grammar.proofs.TokenLaws.{bytes_same}
+use Rattle.ll_grammar.specs.Words.{binary_of, cast_of, no_flags}
+use Rattle.ll_grammar.specs.Reading.{Read, Done, ◌>>=◌, stopped, mark, keyword, name, metadatum, width, one_width, literal}
+use Rattle.ll_grammar.specs.Forms.{operand, typed, of_width, next_target, target, binary, compare, conversion, select, is_call_word, call_words, callee_at, called, last_argument, close_call, value_call, assume_at, assume_callee, void, assume, operation, entry, behind_comma, another, entries, phi, return_value, branch, case, cases, switch, terminator}
+use Rattle.ll_grammar.proofs.DoneLaws.{weaken}
 use Rattle.ll_grammar.proofs.FormLaws.{case_sound}
 use Rattle.ll_grammar.proofs.StatementLaws.{entry_sound, another_sound}
 use Rattle.ll_grammar.proofs.LengthLaws.{case_takes, entry_takes}
 use Rattle.ll_grammar.proofs.FormReadLaws.{goto_reads, terminator_reads}
 use Rattle.ll_grammar.proofs.OpReadLaws.{call_words_reads, callee_of_reads}
-use Rattle.ll_grammar.proofs.EarlyLaws.{Looks, early_within, settles_from, push_if}
+use Rattle.ll_grammar.proofs.EarlyLaws.{early_within, settles_from, push_if}
 use Rattle.ll_grammar.proofs.EarlyFormLaws.{looks_mark, looks_group, looks_callee, looks_assume, looks_of_word, looks_nothing, early_mark, early_keyword, early_name, early_metadatum, early_width, early_one_width, early_literal, early_operand, early_typed, early_of_width, early_target, early_next_target, early_call_words, early_called, early_last_argument, early_close_call, early_void, early_assume_callee, early_entry, early_another, early_entries, early_case, early_cases, entries_settle, cases_settle, then_same, if_same, follows_take}
-use Rattle.ll_grammar.proofs.CompletionLaws.{always_done, token, Any, FirstIs, Always, Starts, Completes, Comp, comp_weak, forget, seq, seq_any, comp_done, comp_take_if, comp_take_some, comp_of, completes_if, completes_some, completes_stopped, completes_done, completes_taken, completes_same, completes_zero, completes_behind, completes_both, completes_weak, starts_done, starts_then, starts_same, starts_weak, starts_lift}
-use Rattle.ll_grammar.proofs.CompletionFormLaws.{word, sign, IsW, IsWOf, comp_mark, comp_keyword, comp_name, comp_metadatum, comp_width, comp_one_width, comp_literal, comp_operand, comp_typed, comp_of_width, comp_target, comp_next_target, comp_binary, comp_compare, comp_conversion, comp_select, bit_width, width_fits}
+use Rattle.ll_grammar.proofs.CompletionLaws.{always_done, token, Any, FirstIs, Always, Starts, Completes, Comp, comp_weak, forget, seq, seq_any, comp_done, comp_take_if, comp_take_some, comp_of, completes_if, completes_some, completes_stopped, completes_done, completes_taken, completes_same, completes_zero, completes_behind, completes_both, starts_done, starts_then, starts_same, starts_weak, starts_lift}
+use Rattle.ll_grammar.proofs.CompletionFormLaws.{word, sign, IsW, comp_mark, comp_keyword, comp_name, comp_metadatum, comp_width, comp_one_width, comp_literal, comp_operand, comp_typed, comp_of_width, comp_target, comp_next_target, comp_binary, comp_compare, comp_conversion, comp_select, bit_width, width_fits}
 
 -- ---- calls
 

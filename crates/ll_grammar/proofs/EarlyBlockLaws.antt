@@ -1,5 +1,5 @@
 -- Statements and blocks look at no token behind the first one that they leave.
-use Rattle.std.proofs.Common.{◌≡◌, ◌+◌, ◌≤◌, ℕ, zero, suc, Bool, true, false, ◌&&◌, List, [], ◌∷◌, ◌++◌, length, drop, refl, sym, ap, ◌∙◌, subst, arith}
+use Rattle.std.proofs.Common.{◌≡◌, ◌≤◌, ℕ, zero, suc, Bool, true, false, ◌&&◌, List, [], ◌∷◌, ◌++◌, length, drop, refl, sym, ap, ◌∙◌, subst, arith}
 use Rattle.std.specs.Prelude.{codes, if◌then◌else◌, All}
 use Rattle.std.specs.Str.{bytes_eq}
 use Rattle.ll_token.specs.declared.token.TokenKind.TheVariants as kinds
@@ -10,17 +10,17 @@ use Rattle.ll_grammar.specs.declared.block.Item.{Item}
 use Rattle.ll_grammar.specs.declared.block.Item.TheVariants as item
 use Rattle.ll_grammar.specs.declared.stop.Place.TheVariants as place
 use Rattle.ll_grammar.specs.Tokens.{Tok, is_empty, word_at, mark_at, kind_at, name_at, debug_at, line_at, behind_line}
-use Rattle.ll_grammar.specs.Reading.{Read, Done, RanOut, ◌>>=◌, mark, name, metadatum}
+use Rattle.ll_grammar.specs.Reading.{Read, Done, RanOut, ◌>>=◌, name, metadatum}
 use Rattle.ll_grammar.specs.Forms.{is_call_word, assume, operation, phi, terminator}
 use Rattle.ll_grammar.specs.Blocks.{metadata_within, metadata, passed_within, passed, assignment, bare_statement, statement, block_step, block_within, block, entry_block, labelled_block, blocks_within, blocks}
-use Rattle.ll_grammar.specs.Spells.{LeavesLine, SpellsPhi, SpellsEnd}
-use Rattle.ll_grammar.proofs.DoneLaws.{OnDone, weaken}
-use Rattle.ll_grammar.proofs.StatementLaws.{SpellsItem, IsStatementOf, metadatum_sound, behind_line_is, statement_sound}
+use Rattle.ll_grammar.specs.Spells.{LeavesLine}
+use Rattle.ll_grammar.proofs.DoneLaws.{weaken}
+use Rattle.ll_grammar.proofs.StatementLaws.{SpellsItem, metadatum_sound, behind_line_is, statement_sound}
 use Rattle.ll_grammar.proofs.BlockLaws.{labelled_block_sound}
 use Rattle.ll_grammar.proofs.LengthLaws.{Takes, phi_takes, instr_takes, end_takes, statement_takes, block_takes}
 use Rattle.ll_grammar.proofs.StatementReadLaws.{behind_line_reads}
-use Rattle.ll_grammar.proofs.EarlyLaws.{IsEarly, Early, Looks, Settles, early_done, early_ran_out, early_taken, early_stopped, early_then, early_if, early_behind, early_within, settles_from, early_same, push_if}
-use Rattle.ll_grammar.proofs.EarlyFormLaws.{looks_word, looks_mark, looks_kind, looks_name, looks_of_word, looks_nothing, early_mark, early_name, early_metadatum, early_operation, early_assume, early_phi, early_terminator, then_same, if_same, behind_fits}
+use Rattle.ll_grammar.proofs.EarlyLaws.{IsEarly, Early, Looks, early_done, early_ran_out, early_taken, early_then, early_if, early_behind, early_within, settles_from, early_same, push_if}
+use Rattle.ll_grammar.proofs.EarlyFormLaws.{looks_mark, looks_kind, looks_name, looks_of_word, early_mark, early_name, early_metadatum, early_operation, early_assume, early_phi, early_terminator, then_same, if_same, behind_fits}
 
 -- ---- metadata
 

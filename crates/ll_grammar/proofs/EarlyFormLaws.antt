@@ -1,5 +1,5 @@
 -- The forms of instructions look at no token behind the first one that they leave.
-use Rattle.std.proofs.Common.{◌≡◌, ◌+◌, ◌-◌, ◌≤◌, ℕ, zero, suc, Bool, true, false, cond, ◌&&◌, ◌||◌, not, List, [], ◌∷◌, ◌++◌, length, drop, Option, Some, None, refl, sym, ap, ◌∙◌, subst, arith}
+use Rattle.std.proofs.Common.{◌≡◌, ◌≤◌, ℕ, zero, suc, Bool, true, false, List, [], ◌∷◌, ◌++◌, length, drop, Option, Some, None, refl, ap, arith}
 use Rattle.std.specs.Prelude.{codes, ◌==◌, if◌then◌else◌}
 use Rattle.std.specs.Option.{option_map_or}
 use Rattle.std.specs.Str.{bytes_eq}
@@ -8,7 +8,6 @@ use Rattle.ll_token.specs.declared.token.TokenKind.TheVariants as kinds
 use Rattle.ll_tree.specs.declared.block.Operand.{Operand}
 use Rattle.ll_tree.specs.declared.block.Operand.TheVariants as value
 use Rattle.ll_tree.specs.declared.block.PhiEntry.{PhiEntry}
-use Rattle.ll_tree.specs.declared.block.Phi.{Phi}
 use Rattle.ll_tree.specs.declared.block.Case.{Case}
 use Rattle.ll_tree.specs.declared.block.End.TheVariants as end
 use Rattle.ll_tree.specs.declared.op.Op.TheVariants as op
@@ -20,14 +19,14 @@ use Rattle.ll_grammar.specs.declared.opcodes.Callee.TheVariants as callee
 use Rattle.ll_grammar.specs.declared.stop.Place.{Place}
 use Rattle.ll_grammar.specs.declared.stop.Place.TheVariants as place
 use Rattle.ll_grammar.specs.Tokens.{Tok, word_at, mark_at, kind_at, name_at, group_at}
-use Rattle.ll_grammar.specs.Words.{width_of, has_width, literal_of, binary_of, cast_of, pred_of, callee_of, takes, cast_takes, compare_takes, no_flags, add_flag}
-use Rattle.ll_grammar.specs.Reading.{Read, Done, Fault, RanOut, ◌>>=◌, stopped, take_if, take_some, mark, keyword, name, metadatum, width, one_width, literal_at, literal}
+use Rattle.ll_grammar.specs.Words.{width_of, has_width, binary_of, cast_of, pred_of, takes, cast_takes, compare_takes, no_flags, add_flag}
+use Rattle.ll_grammar.specs.Reading.{Read, Done, Fault, RanOut, ◌>>=◌, stopped, mark, keyword, name, metadatum, width, one_width, literal_at, literal}
 use Rattle.ll_grammar.specs.Forms.{operand, typed, of_width, second, target, next_target, flags_within, flags, binary, compare, conversion, select, is_call_word, call_words, callee_at, called, last_argument, close_call, value_call, assume_at, assume_callee, void, assume, operation, entry, behind_comma, another, entries_behind, entries, phi, return_value, branch, case, cases, switch, terminator}
-use Rattle.ll_grammar.proofs.DoneLaws.{OnDone, weaken, Holds}
+use Rattle.ll_grammar.proofs.DoneLaws.{OnDone, weaken}
 use Rattle.ll_grammar.proofs.FormLaws.{case_sound}
 use Rattle.ll_grammar.proofs.StatementLaws.{entry_sound, another_sound, Follows}
 use Rattle.ll_grammar.proofs.LengthLaws.{case_takes, entry_takes, metadata_take}
-use Rattle.ll_grammar.proofs.EarlyLaws.{IsEarly, Looks, Settles, early_done, early_ran_out, early_taken, early_stopped, early_then, early_if, early_some, early_take_if, early_take_some, early_behind, early_within, settles_from, early_same, push_if}
+use Rattle.ll_grammar.proofs.EarlyLaws.{IsEarly, Looks, early_done, early_ran_out, early_taken, early_stopped, early_then, early_if, early_some, early_take_if, early_take_some, early_behind, early_within, settles_from, early_same, push_if}
 
 -- ---- single tokens
 

@@ -1,5 +1,5 @@
 -- A header, and a whole function, look at no token behind the first one that they leave.
-use Rattle.std.proofs.Common.{◌≡◌, ◌+◌, ◌≤◌, ℕ, zero, suc, Bool, true, false, ◌||◌, List, [], ◌∷◌, ◌++◌, length, drop, Option, Some, None, refl, sym, ap, ◌∙◌, subst, arith}
+use Rattle.std.proofs.Common.{◌≡◌, ◌≤◌, ℕ, zero, suc, Bool, true, false, ◌||◌, List, [], ◌∷◌, ◌++◌, length, drop, Some, None, refl, sym, ap, arith}
 use Rattle.std.specs.Prelude.{codes, if◌then◌else◌}
 use Rattle.std.specs.Str.{bytes_eq}
 use Rattle.std.specs.Fmt.{decimal}
@@ -11,14 +11,13 @@ use Rattle.ll_grammar.specs.declared.stop.Place.{Place}
 use Rattle.ll_grammar.specs.declared.stop.Place.TheVariants as place
 use Rattle.ll_grammar.specs.Tokens.{Tok, word_at, mark_at, kind_at, name_at}
 use Rattle.ll_grammar.specs.Words.{width_of, has_width}
-use Rattle.ll_grammar.specs.Reading.{Read, Done, RanOut, ◌>>=◌, stopped, mark, name, keyword, width, literal_at}
+use Rattle.ll_grammar.specs.Reading.{Done, RanOut, ◌>>=◌, stopped, mark, width, literal_at}
 use Rattle.ll_grammar.specs.Header.{is_among, words_within, words, other_literal, bounds, range_at, ret_type, ranged_result, result_type, param_range, param_type, param_of, closing, param, count_unnamed, params_within, params, to_body_within, to_body, function}
-use Rattle.ll_grammar.specs.Blocks.{blocks}
-use Rattle.ll_grammar.proofs.DoneLaws.{OnDone, weaken}
+use Rattle.ll_grammar.proofs.DoneLaws.{weaken}
 use Rattle.ll_grammar.proofs.HeaderLaws.{param_sound}
 use Rattle.ll_grammar.proofs.LengthLaws.{param_takes}
 use Rattle.ll_grammar.proofs.EarlyLaws.{IsEarly, Looks, early_done, early_ran_out, early_taken, early_stopped, early_then, early_if, early_take_if, early_take_some, early_behind, early_within, settles_from}
-use Rattle.ll_grammar.proofs.EarlyFormLaws.{looks_word, looks_mark, looks_kind, looks_name, looks_of_word, looks_nothing, early_mark, early_keyword, early_name, early_width, early_one_width, early_literal, then_same, if_same, behind_fits}
+use Rattle.ll_grammar.proofs.EarlyFormLaws.{looks_mark, looks_kind, looks_name, looks_of_word, looks_nothing, early_mark, early_keyword, early_name, early_width, early_one_width, early_literal, then_same, if_same, behind_fits}
 use Rattle.ll_grammar.proofs.EarlyBlockLaws.{early_blocks}
 
 -- ---- words of a table

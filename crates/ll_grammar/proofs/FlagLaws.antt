@@ -1,16 +1,15 @@
 -- The flags that are read are words that stand there, each one that is allowed and none twice.
-use Rattle.std.proofs.Common.{◌≡◌, ℕ, zero, suc, Bool, true, false, cond, not, ◌&&◌, ◌||◌, List, [], ◌∷◌, ◌++◌, length, drop, Option, Some, None, refl, sym, ap, ◌∙◌, subst, true≢false, append_assoc, append-nil}
+use Rattle.std.proofs.Common.{◌≡◌, ℕ, zero, suc, Bool, true, false, cond, not, ◌&&◌, ◌||◌, List, [], ◌∷◌, ◌++◌, length, drop, Some, None, refl, sym, ap, ◌∙◌, subst, true≢false, append_assoc, append-nil}
 use Rattle.std.specs.Prelude.{codes, IsTrue}
 use Rattle.std.specs.List.{list_all}
 use Rattle.std.specs.Str.{bytes_eq}
 use Rattle.ll_tree.specs.declared.op.Flags.{Flags}
 use Rattle.ll_grammar.specs.Tokens.{Tok, is_empty, word_at}
 use Rattle.ll_grammar.specs.Words.{add_flag}
-use Rattle.ll_grammar.specs.Reading.{Read, Done}
 use Rattle.ll_grammar.specs.Forms.{flags, flags_within}
-use Rattle.ll_grammar.specs.Spells.{IsWord, AreWords, has, AreOnce, flags_of, flag_words, AreFlags}
-use Rattle.ll_grammar.proofs.DoneLaws.{OnDone, on_done, on_then, on_some, weaken}
-use Rattle.ll_grammar.proofs.TokenLaws.{same_bytes, bytes_same, both_true, word_is, some_if, some_is, none_is}
+use Rattle.ll_grammar.specs.Spells.{AreWords, has, AreOnce, flags_of, flag_words, AreFlags}
+use Rattle.ll_grammar.proofs.DoneLaws.{OnDone, on_done, on_some, weaken}
+use Rattle.ll_grammar.proofs.TokenLaws.{same_bytes, bytes_same, both_true, word_is, some_if, some_is}
 
 pub or_false : (b : Bool) → (b || false) ≡ b
 or_false true = refl

@@ -1,10 +1,8 @@
 -- What is read of operands, targets and terminators is what spells them.
-use Rattle.std.proofs.Common.{◌≡◌, ℕ, zero, suc, Bool, true, false, cond, List, [], ◌∷◌, ◌++◌, length, drop, Option, Some, None, refl, sym, ap, ◌∙◌, subst, eqb, eqb-true, true≢false, arith, append_assoc, append-nil}
+use Rattle.std.proofs.Common.{◌≡◌, ℕ, zero, suc, true, false, List, [], ◌∷◌, ◌++◌, length, drop, Option, Some, None, refl, sym, ap, ◌∙◌, subst, eqb, eqb-true, true≢false, arith, append_assoc, append-nil}
 use Rattle.std.specs.Prelude.{codes}
 use Rattle.ll_token.specs.declared.token.TokenKind.{TokenKind}
 use Rattle.ll_token.specs.declared.token.TokenKind.TheVariants as kinds
-use Rattle.ll_tree.specs.declared.block.Operand.{Operand}
-use Rattle.ll_tree.specs.declared.block.Operand.TheVariants as value
 use Rattle.ll_tree.specs.declared.block.Case.{Case}
 use Rattle.ll_grammar.specs.declared.stop.Place.{Place}
 use Rattle.ll_grammar.specs.Tokens.{Tok, is_empty, word_at, mark_at}
@@ -13,7 +11,7 @@ use Rattle.std.specs.Option.{option_map_or}
 use Rattle.std.proofs.lemmas.Fmt.{decimal_digit}
 use Rattle.ll_grammar.specs.declared.stop.Place.TheVariants as place
 use Rattle.std.specs.Str.{bytes_eq}
-use Rattle.ll_grammar.specs.Reading.{Done, mark, keyword, name, width, one_width, literal, literal_at}
+use Rattle.ll_grammar.specs.Reading.{mark, keyword, name, width, one_width, literal, literal_at}
 use Rattle.ll_grammar.specs.Forms.{operand, typed, of_width, second, target, next_target, return_value, branch, case, cases, switch, terminator}
 use Rattle.ll_grammar.specs.Spells.{IsWord, IsMark, IsNameOf, IsType, IsLiteral, IsOperand, IsTyped, IsSecond, IsTarget, IsNextTarget, SpellsCase, SpellCases, SpellsEnd}
 use Rattle.ll_grammar.proofs.DoneLaws.{OnDone, on_done, on_ran_out, on_then, on_if, on_stopped, on_take_if, on_take_some, weaken}

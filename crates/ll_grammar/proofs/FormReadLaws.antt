@@ -1,8 +1,7 @@
 -- What spells operands, targets and terminators is read as them.
-use Rattle.std.proofs.Common.{◌≡◌, ◌⊎◌, ◌<◌, ◌≤◌, ℕ, zero, suc, Bool, true, false, List, [], ◌∷◌, ◌++◌, length, drop, refl, sym, ap, ◌∙◌, inl, inr, arith, append_assoc, append-nil}
+use Rattle.std.proofs.Common.{◌≡◌, ◌⊎◌, ◌≤◌, ℕ, zero, suc, false, List, [], ◌∷◌, ◌++◌, length, drop, refl, sym, ap, ◌∙◌, inl, inr, arith, append_assoc, append-nil}
 use Rattle.std.specs.Prelude.{codes}
 use Rattle.std.specs.Str.{bytes_eq}
-use Rattle.std.specs.Fmt.{decimal}
 use Rattle.std.proofs.lemmas.Fmt.{decimal_digit}
 use Rattle.ll_token.specs.declared.token.TokenKind.TheVariants as kinds
 use Rattle.ll_tree.specs.declared.block.Operand.{Operand}
@@ -13,9 +12,9 @@ use Rattle.ll_tree.specs.declared.block.End.TheVariants as end
 use Rattle.ll_grammar.specs.declared.stop.Place.TheVariants as place
 use Rattle.ll_grammar.specs.Tokens.{Tok, word_at, mark_at, kind_at, name_at}
 use Rattle.ll_grammar.specs.Words.{width_of}
-use Rattle.ll_grammar.specs.Reading.{Read, Done}
+use Rattle.ll_grammar.specs.Reading.{Done}
 use Rattle.ll_grammar.specs.Forms.{operand, typed, of_width, second, target, next_target, return_value, branch, case, cases, switch, terminator}
-use Rattle.ll_grammar.specs.Spells.{IsWord, IsMark, IsNameOf, IsType, IsLiteral, WritesBit, IsOperand, IsTyped, IsSecond, IsTarget, IsNextTarget, SpellsCase, SpellCases, SpellsEnd}
+use Rattle.ll_grammar.specs.Spells.{IsWord, IsMark, IsType, IsLiteral, IsOperand, IsTyped, IsSecond, IsTarget, IsNextTarget, SpellsCase, SpellCases, SpellsEnd}
 use Rattle.ll_grammar.proofs.TokenLaws.{bytes_same}
 use Rattle.ll_grammar.proofs.TokenReadLaws.{then_reads, if_reads, else_reads, behind_first, at_token, at_word, at_kind, at_mark, at_name, mark_there, kind_there, type_apart, mark_reads, keyword_reads, name_reads, width_reads, one_width_reads, literal_reads}
 use Rattle.ll_grammar.proofs.LengthLaws.{case_takes}

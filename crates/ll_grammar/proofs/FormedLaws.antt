@@ -1,5 +1,5 @@
 -- What tokens spell is formed, where each local name among them has a byte.
-use Rattle.std.proofs.Common.{◌≡◌, ◌⊎◌, ◌<◌, ◌≤◌, ◌^◌, ℕ, zero, suc, Bool, true, false, ◌&&◌, List, [], ◌∷◌, ◌++◌, length, Option, Some, None, refl, sym, ap, ◌∙◌, subst, inl, inr, true≢false, arith, pow_pos, lit<}
+use Rattle.std.proofs.Common.{◌≡◌, ◌<◌, ◌≤◌, ◌^◌, ℕ, Bool, true, false, ◌&&◌, List, [], ◌∷◌, length, Option, Some, None, sym, ◌∙◌, subst, inl, inr, true≢false, arith, pow_pos, lit<}
 use Rattle.std.specs.Prelude.{All}
 use Rattle.std.proofs.lemmas.List.Elements.{All-cons}
 use Rattle.op_table.specs.Words as tables
@@ -22,11 +22,11 @@ use Rattle.ll_tree.specs.declared.op.Op.{Op}
 use Rattle.ll_tree.specs.declared.op.Op.TheVariants as op
 use Rattle.ll_tree.specs.declared.op.BinKind.{BinKind}
 use Rattle.ll_tree.specs.declared.op.Flags.{Flags}
-use Rattle.ll_tree.specs.Formed.{IsWidth, FitsWidth, FitsOperand, FitsRange, HasStrictRange, IsFormedParam, IsFormedRet, IsFormedPhi, IsFormedOp, HasFormedName, IsFormedInstr, IsFormedCase, IsFormedEnd, IsFormedBlock, IsFormed}
-use Rattle.ll_grammar.specs.Tokens.{Tok, held_name, AreNamed}
+use Rattle.ll_tree.specs.Formed.{IsWidth, FitsOperand, FitsRange, HasStrictRange, IsFormedParam, IsFormedRet, IsFormedPhi, IsFormedOp, HasFormedName, IsFormedInstr, IsFormedCase, IsFormedEnd, IsFormedBlock, IsFormed}
+use Rattle.ll_grammar.specs.Tokens.{Tok, AreNamed}
 use Rattle.ll_grammar.specs.Spells as spells
 use Rattle.ll_grammar.specs.Spells.{IsNameOf, IsType, IsLiteral, IsOperand, IsTyped, IsStatement, SpellsBin, SpellsOp, SpellsInstr, SpellsResultOf, is_called, SpellsPhi, SpellEntries, SpellsEnd, SpellsCase, SpellCases, SpellPhis, SpellInstrs, SpellsBlock, SpellBlocks, SpellsEntryBlock, SpellBody, SpellsAttributes, SpellsResult, is_some, SpellsParam, SpellParams, unnamed_with, SpellsFunction}
-use Rattle.ll_grammar.proofs.KeptLaws.{Keeps, tail, same, behind_others, passed_keep, metadata_keep, statement_keeps, phi_keeps, instr_keeps, block_keeps, phis_keep, result_keeps, params_keep}
+use Rattle.ll_grammar.proofs.KeptLaws.{tail, same, behind_others, passed_keep, statement_keeps, instr_keeps, block_keeps, phis_keep, result_keeps, params_keep}
 
 -- ---- numbers
 

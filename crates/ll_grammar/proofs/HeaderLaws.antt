@@ -1,7 +1,7 @@
 -- What is read of a header, and of a whole function, is what spells it.
-use Rattle.std.proofs.Common.{◌≡◌, ◌⊎◌, ◌+◌, ◌≤◌, ℕ, zero, suc, Bool, true, false, cond, ◌&&◌, ◌||◌, eqb, List, [], ◌∷◌, ◌++◌, length, drop, Option, Some, None, refl, sym, ap, ◌∙◌, subst, inl, inr, true≢false, arith, append_assoc, append-nil, eqb-true}
-use Rattle.std.specs.Prelude.{codes, if◌then◌else◌, All, IsTrue}
-use Rattle.std.specs.List.{list_all, list_any}
+use Rattle.std.proofs.Common.{◌≡◌, ◌⊎◌, ℕ, zero, suc, Bool, true, false, cond, ◌&&◌, ◌||◌, eqb, List, [], ◌∷◌, ◌++◌, length, drop, Option, Some, None, refl, sym, ap, ◌∙◌, subst, inl, inr, true≢false, arith, append_assoc}
+use Rattle.std.specs.Prelude.{codes, if◌then◌else◌, All}
+use Rattle.std.specs.List.{list_all}
 use Rattle.std.specs.Option.{option_map_or}
 use Rattle.std.specs.Str.{bytes_eq}
 use Rattle.std.specs.Fmt.{decimal}
@@ -9,21 +9,18 @@ use Rattle.std.proofs.lemmas.Bool.{eqb-false}
 use Rattle.std.proofs.lemmas.List.Elements.{All-cons}
 use Rattle.op_table.specs.Words as tables
 use Rattle.ll_token.specs.declared.token.TokenKind.TheVariants as kinds
-use Rattle.ll_tree.specs.declared.func.Func.{Func}
 use Rattle.ll_tree.specs.declared.func.Param.{Param}
 use Rattle.ll_tree.specs.declared.func.Range.{Range}
-use Rattle.ll_tree.specs.declared.func.Ret.{Ret}
-use Rattle.ll_tree.specs.declared.func.Ret.TheVariants as ret
 use Rattle.ll_grammar.specs.declared.header.ParamType.{ParamType}
 use Rattle.ll_grammar.specs.declared.stop.Place.{Place}
 use Rattle.ll_grammar.specs.declared.stop.Place.TheVariants as place
-use Rattle.ll_grammar.specs.Tokens.{Tok, is_kind, is_empty, word_at, mark_at, kind_at, name_at}
-use Rattle.ll_grammar.specs.Reading.{Read, Done, take_some, literal_at}
-use Rattle.ll_grammar.specs.Header.{is_among, words_within, words, other_literal, bounds, range_at, ret_type, ranged_result, result_type, param_range, param_type, is_some, param_of, closing, param, count_unnamed, params_within, params, to_body_within, to_body, function}
+use Rattle.ll_grammar.specs.Tokens.{Tok, is_kind, is_empty, word_at, mark_at, kind_at}
+use Rattle.ll_grammar.specs.Reading.{Done, take_some, literal_at}
+use Rattle.ll_grammar.specs.Header.{is_among, words_within, words, other_literal, bounds, range_at, ret_type, ranged_result, result_type, param_range, param_type, closing, param, params_within, params, to_body_within, to_body, function}
 use Rattle.ll_grammar.specs.Spells as spells
 use Rattle.ll_grammar.specs.Spells.{IsWord, IsMark, IsNameOf, IsType, IsLiteral, AreWords, has, AreAttributes, SpellsRange, SpellsAttributes, SpellsResult, SpellsParam, SpellParams, unnamed_with, IsNoBrace, SpellsFunction}
 use Rattle.ll_grammar.proofs.DoneLaws.{OnDone, on_done, on_ran_out, on_then, on_if, on_stopped, on_take_if, on_take_some, weaken}
-use Rattle.ll_grammar.proofs.TokenLaws.{same_bytes, bytes_same, same_kind, kind_same, word_is, mark_is, kind_is, type_is, some_is, none_is}
+use Rattle.ll_grammar.proofs.TokenLaws.{same_bytes, bytes_same, word_is, mark_is, kind_is, type_is, some_is, none_is}
 use Rattle.ll_grammar.proofs.FormLaws.{mark_sound, keyword_sound, name_sound, width_sound, one_width_sound, literal_sound, literal_at_is, has_width_is}
 use Rattle.ll_grammar.proofs.FlagLaws.{or_false, or_assoc, bytes_apart}
 use Rattle.ll_grammar.proofs.BlockLaws.{blocks_sound}

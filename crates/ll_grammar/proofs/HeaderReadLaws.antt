@@ -1,6 +1,6 @@
 -- What spells a header, and a whole function, is read as it.
-use Rattle.std.proofs.Common.{◌≡◌, ◌⊎◌, ◌+◌, ◌<◌, ◌≤◌, ℕ, zero, suc, Bool, true, false, cond, ◌&&◌, ◌||◌, eqb, List, [], ◌∷◌, ◌++◌, length, drop, Option, Some, None, refl, sym, ap, ◌∙◌, subst, inl, inr, true≢false, arith, append_assoc, append-nil, ne_eqb, length-append}
-use Rattle.std.specs.Prelude.{codes, if◌then◌else◌, All, IsTrue}
+use Rattle.std.proofs.Common.{◌≡◌, ◌≤◌, ℕ, zero, suc, Bool, true, false, ◌&&◌, ◌||◌, eqb, List, [], ◌∷◌, ◌++◌, length, drop, Option, Some, None, refl, sym, ap, ◌∙◌, subst, inl, inr, true≢false, arith, append_assoc, ne_eqb}
+use Rattle.std.specs.Prelude.{codes, if◌then◌else◌, All}
 use Rattle.std.specs.List.{list_all}
 use Rattle.std.specs.Option.{option_map_or}
 use Rattle.std.specs.Str.{bytes_eq}
@@ -13,13 +13,11 @@ use Rattle.ll_tree.specs.declared.func.Param.{Param}
 use Rattle.ll_tree.specs.declared.func.Range.{Range}
 use Rattle.ll_tree.specs.declared.func.Ret.{Ret}
 use Rattle.ll_tree.specs.declared.func.Ret.TheVariants as ret
-use Rattle.ll_grammar.specs.declared.header.ResultType.{ResultType}
-use Rattle.ll_grammar.specs.declared.header.ParamType.{ParamType}
 use Rattle.ll_grammar.specs.declared.stop.Place.{Place}
 use Rattle.ll_grammar.specs.declared.stop.Place.TheVariants as place
-use Rattle.ll_grammar.specs.Tokens.{Tok, is_kind, word_at, mark_at, kind_at, name_at}
-use Rattle.ll_grammar.specs.Words.{width_of, digits_width, has_width}
-use Rattle.ll_grammar.specs.Reading.{Read, Done, ◌>>=◌, literal_at, take_some, mark}
+use Rattle.ll_grammar.specs.Tokens.{Tok, is_kind, word_at, mark_at, kind_at}
+use Rattle.ll_grammar.specs.Words.{width_of, digits_width}
+use Rattle.ll_grammar.specs.Reading.{Done, mark}
 use Rattle.ll_grammar.specs.Header.{is_among, words_within, words, other_literal, bounds, range_at, ret_type, ranged_result, result_type, param_range, param_type, param_of, closing, param, params_within, params, to_body_within, to_body, function}
 use Rattle.ll_grammar.specs.Spells as spells
 use Rattle.ll_grammar.specs.Spells.{IsWord, IsMark, IsNameOf, IsType, IsLiteral, AreWords, has, AreAttributes, SpellsRange, SpellsAttributes, SpellsResult, SpellsParam, SpellParams, unnamed_with, IsNoBrace, SpellsFunction}

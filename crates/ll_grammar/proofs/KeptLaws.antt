@@ -1,5 +1,5 @@
 -- What is said of each token of a text is said of those behind what is spelled.
-use Rattle.std.proofs.Common.{◌≡◌, ◌⊎◌, ◌+◌, ◌<◌, ◌≤◌, ℕ, zero, suc, Bool, true, false, List, [], ◌∷◌, ◌++◌, length, Option, Some, None, ap, subst, inl, inr}
+use Rattle.std.proofs.Common.{◌≡◌, ◌⊎◌, ℕ, zero, suc, Bool, true, false, List, [], ◌∷◌, ◌++◌, Option, Some, None, subst, inl, inr}
 use Rattle.std.specs.Prelude.{codes}
 use Rattle.ll_tree.specs.declared.func.Param.{Param}
 use Rattle.ll_tree.specs.declared.func.Range.{Range}
@@ -22,7 +22,7 @@ use Rattle.ll_token.specs.declared.token.TokenKind.{TokenKind}
 use Rattle.op_table.specs.Words as tables
 use Rattle.ll_grammar.specs.Tokens.{Tok, AreNamed}
 use Rattle.ll_grammar.specs.Words.{takes, cast_takes, compare_takes}
-use Rattle.ll_grammar.specs.Spells.{Is, word_of, IsWord, IsNameOf, IsType, IsLiteral, IsOperand, IsTyped, IsSecond, IsTarget, IsNextTarget, AreWords, AreFlags, IsCall, ClosesCall, BeginsCall, is_called, SpellsBin, SpellsOp, SpellsResultOf, SpellsEntry, SpellEntries, SpellsPhi, SpellsCase, SpellCases, SpellsEnd, AreMetadata, ArePassed, IsStatement, SpellPhis, SpellInstrs, SpellsBlock, SpellsRange, SpellsAttributes, SpellParams, SpellsParam, unnamed_with, SpellsResult}
+use Rattle.ll_grammar.specs.Spells.{Is, word_of, IsWord, IsNameOf, IsType, IsLiteral, IsOperand, IsTyped, IsSecond, IsTarget, IsNextTarget, AreWords, AreFlags, IsCall, ClosesCall, BeginsCall, is_called, SpellsBin, SpellsOp, SpellsResultOf, SpellsEntry, SpellEntries, SpellsPhi, SpellsCase, SpellCases, SpellsEnd, AreMetadata, ArePassed, IsStatement, SpellPhis, SpellInstrs, SpellsBlock, SpellsAttributes, SpellParams, SpellsParam, unnamed_with, SpellsResult}
 
 -- what is said of each token is said of those left
 abbrev pub Keeps : (ts rest : List Tok) → Type 0

@@ -1,5 +1,5 @@
 -- What is spelled takes tokens.
-use Rattle.std.proofs.Common.{◌≡◌, ◌⊎◌, ◌+◌, ◌<◌, ◌≤◌, ℕ, zero, suc, Bool, true, false, List, [], ◌∷◌, ◌++◌, length, Option, Some, None, ap, inl, inr, arith, length-append}
+use Rattle.std.proofs.Common.{◌≡◌, ◌⊎◌, ◌+◌, ◌<◌, ◌≤◌, ℕ, zero, suc, Bool, true, false, List, [], ◌∷◌, length, Option, Some, None, ap, inl, inr, arith, length-append}
 use Rattle.std.specs.Prelude.{codes}
 use Rattle.ll_tree.specs.declared.func.Param.{Param}
 use Rattle.ll_tree.specs.declared.func.Range.{Range}
@@ -20,7 +20,7 @@ use Rattle.ll_token.specs.declared.token.TokenKind.{TokenKind}
 use Rattle.op_table.specs.Words as tables
 use Rattle.ll_grammar.specs.Tokens.{Tok}
 use Rattle.ll_grammar.specs.Words.{takes, cast_takes, compare_takes}
-use Rattle.ll_grammar.specs.Spells.{Is, word_of, IsWord, IsNameOf, IsType, IsLiteral, IsOperand, IsTyped, IsSecond, IsTarget, IsNextTarget, AreWords, AreFlags, IsCall, ClosesCall, BeginsCall, is_called, SpellsBin, SpellsOp, SpellsResultOf, SpellsEntry, SpellEntries, SpellsPhi, SpellsCase, SpellCases, SpellsEnd, AreMetadata, ArePassed, IsStatement, SpellPhis, SpellInstrs, SpellsBlock, SpellsRange, SpellsAttributes, SpellsParam}
+use Rattle.ll_grammar.specs.Spells.{Is, word_of, IsWord, IsNameOf, IsType, IsLiteral, IsOperand, IsTyped, IsSecond, IsTarget, IsNextTarget, AreWords, AreFlags, IsCall, ClosesCall, BeginsCall, is_called, SpellsBin, SpellsOp, SpellsResultOf, SpellsEntry, SpellEntries, SpellsPhi, SpellsCase, SpellCases, SpellsEnd, AreMetadata, ArePassed, IsStatement, SpellPhis, SpellInstrs, SpellsBlock, SpellsAttributes, SpellsParam}
 
 -- one token at least is taken
 abbrev pub Takes : (ts rest : List Tok) → Type 0

@@ -1,5 +1,5 @@
 -- What spells flags and an operation is read as them.
-use Rattle.std.proofs.Common.{◌≡◌, ◌⊎◌, ◌+◌, ◌≤◌, ℕ, zero, suc, Bool, true, false, cond, not, ◌&&◌, ◌||◌, eqb, List, [], ◌∷◌, ◌++◌, length, drop, Option, Some, None, refl, sym, ap, ◌∙◌, subst, inl, inr, true≢false, arith, append_assoc, append-nil, eq-eqb}
+use Rattle.std.proofs.Common.{◌≡◌, ◌≤◌, ℕ, zero, suc, Bool, true, false, cond, not, ◌&&◌, eqb, List, [], ◌∷◌, ◌++◌, length, drop, Option, Some, None, refl, sym, ap, ◌∙◌, subst, inl, inr, true≢false, arith, append_assoc, append-nil, eq-eqb}
 use Rattle.std.specs.Prelude.{codes, IsTrue, if◌then◌else◌}
 use Rattle.std.specs.List.{list_all}
 use Rattle.std.specs.Option.{option_map_or}
@@ -20,15 +20,15 @@ use Rattle.ll_grammar.specs.declared.opcodes.Callee.{Callee}
 use Rattle.ll_grammar.specs.declared.opcodes.Callee.TheVariants as callee
 use Rattle.ll_grammar.specs.declared.stop.Place.TheVariants as place
 use Rattle.ll_grammar.specs.Tokens.{Tok, is_kind, has_prefix, word_at, kind_at, name_at, group_at}
-use Rattle.ll_grammar.specs.Words.{width_of, has_width, binary_of, cast_of, pred_of, callee_of, behind, typed_callee, takes, cast_takes, compare_takes, no_flags, add_flag}
-use Rattle.ll_grammar.specs.Reading.{Read, Done, take_some, keyword}
+use Rattle.ll_grammar.specs.Words.{binary_of, cast_of, pred_of, callee_of, behind, takes, cast_takes, compare_takes, no_flags, add_flag}
+use Rattle.ll_grammar.specs.Reading.{Done, keyword}
 use Rattle.ll_grammar.specs.Forms.{flags, flags_within, binary, compare, conversion, select, is_call_word, call_words, callee_at, called, last_argument, close_call, value_call, assume_at, assume_callee, void, assume, operation}
-use Rattle.ll_grammar.specs.Spells.{IsWord, IsMark, IsNameOf, IsType, IsLiteral, IsTyped, IsSecond, AreWords, AreOnce, has, flags_of, flag_words, AreFlags, IsCall, IsGroup, IsNoGroup, ClosesCall, BeginsCall, SpellsBin, SpellsOp, word_of, is_called, cast_word, pred_word}
+use Rattle.ll_grammar.specs.Spells.{IsWord, IsMark, IsNameOf, IsType, IsLiteral, IsTyped, IsSecond, AreWords, AreOnce, has, flags_of, flag_words, AreFlags, IsCall, ClosesCall, BeginsCall, SpellsBin, SpellsOp, word_of, is_called, cast_word, pred_word}
 use Rattle.ll_grammar.proofs.TokenLaws.{both_true, same_kind, bytes_same, width_of_reads}
 use Rattle.ll_grammar.proofs.FlagLaws.{tests, adds, once_new}
 use Rattle.ll_grammar.proofs.OpLaws.{IsValued, name_of, IsCallee}
 use Rattle.ll_grammar.proofs.LengthLaws.{words_take}
-use Rattle.ll_grammar.proofs.TokenReadLaws.{then_reads, if_reads, else_reads, take_if_reads, take_some_reads, behind_first, at_word, at_kind, at_name, kind_there, type_word, mark_reads, keyword_reads, width_reads, one_width_reads, literal_reads}
+use Rattle.ll_grammar.proofs.TokenReadLaws.{then_reads, if_reads, else_reads, take_if_reads, take_some_reads, behind_first, at_word, at_name, kind_there, type_word, mark_reads, keyword_reads, width_reads, one_width_reads, literal_reads}
 use Rattle.ll_grammar.proofs.FormReadLaws.{typed_reads, of_width_reads, second_reads}
 
 pub some_reads : {A B : Type 0} {x : A} {y : B} (f : A → B) (o : Option A) (r : B) → o ≡ Some x → f x ≡ y → option_map_or f o r ≡ y

@@ -1,11 +1,10 @@
 -- What is read of a statement is what spells it, behind lines that are passed over and with its metadata.
-use Rattle.std.proofs.Common.{◌≡◌, ◌⊎◌, ◌+◌, ◌≤◌, ℕ, zero, suc, Bool, true, false, cond, ◌&&◌, ◌||◌, eqb, List, [], ◌∷◌, ◌++◌, length, drop, refl, sym, ap, ◌∙◌, subst, inl, inr, true≢false, arith, append_assoc, append-nil, eqb-true}
+use Rattle.std.proofs.Common.{◌≡◌, ◌≤◌, ℕ, zero, suc, Bool, true, false, ◌&&◌, eqb, List, [], ◌∷◌, ◌++◌, length, drop, refl, sym, ap, ◌∙◌, subst, arith, append_assoc, eqb-true}
 use Rattle.std.specs.Prelude.{codes, if◌then◌else◌, All}
 use Rattle.std.specs.Str.{bytes_eq}
 use Rattle.std.proofs.lemmas.Bool.{eqb-false}
 use Rattle.std.proofs.lemmas.List.Elements.{All-cons}
 use Rattle.ll_token.specs.declared.token.TokenKind.TheVariants as kinds
-use Rattle.ll_tree.specs.declared.block.Phi.{Phi}
 use Rattle.ll_tree.specs.declared.block.PhiEntry.{PhiEntry}
 use Rattle.ll_tree.specs.declared.op.Op.{Op}
 use Rattle.ll_tree.specs.declared.op.Op.TheVariants as op
@@ -13,11 +12,11 @@ use Rattle.ll_grammar.specs.declared.block.Item.{Item}
 use Rattle.ll_grammar.specs.declared.block.Item.TheVariants as item
 use Rattle.ll_grammar.specs.declared.stop.Place.TheVariants as place
 use Rattle.ll_grammar.specs.Tokens.{Tok, word_at, mark_at, kind_at, name_at, debug_at, is_debug, line_at, behind_line}
-use Rattle.ll_grammar.specs.Reading.{Read, Done, metadatum}
+use Rattle.ll_grammar.specs.Reading.{Done, metadatum}
 use Rattle.ll_grammar.specs.Forms.{behind_comma, another, entry, entries, phi, is_call_word}
 use Rattle.ll_grammar.specs.Blocks.{metadata_within, metadata, passed_within, passed, assignment, bare_statement, statement}
-use Rattle.ll_grammar.specs.Spells.{IsWord, IsMark, IsNameOf, IsType, IsOperand, SpellsEntry, SpellEntries, SpellsPhi, SpellsOp, SpellsInstr, SpellsResultOf, SpellsEnd, AreMetadata, LeavesLine, ArePassed, IsStatement}
-use Rattle.ll_grammar.proofs.DoneLaws.{OnDone, on_done, on_ran_out, on_then, on_if, on_stopped, on_take_if, weaken}
+use Rattle.ll_grammar.specs.Spells.{IsWord, IsMark, IsNameOf, SpellsEntry, SpellEntries, SpellsPhi, SpellsOp, SpellsInstr, SpellsResultOf, SpellsEnd, AreMetadata, LeavesLine, ArePassed, IsStatement}
+use Rattle.ll_grammar.proofs.DoneLaws.{OnDone, on_done, on_ran_out, on_then, on_if, on_take_if, weaken}
 use Rattle.ll_grammar.proofs.TokenLaws.{same_bytes, both_true, word_is, mark_is, kind_is}
 use Rattle.ll_grammar.proofs.FormLaws.{mark_sound, name_sound, width_sound, operand_sound, terminator_sound}
 use Rattle.ll_grammar.proofs.OpLaws.{IsValued, operation_sound, assume_sound}

@@ -1,12 +1,11 @@
 -- What spells a statement is read as it.
-use Rattle.std.proofs.Common.{◌≡◌, ◌⊎◌, ◌+◌, ◌<◌, ◌≤◌, ℕ, zero, suc, Bool, true, false, cond, ◌&&◌, ◌||◌, eqb, List, [], ◌∷◌, ◌++◌, length, drop, refl, sym, ap, ◌∙◌, subst, inl, inr, true≢false, arith, append_assoc, append-nil, eq-eqb, ne_eqb}
-use Rattle.std.specs.Prelude.{codes, if◌then◌else◌, All}
+use Rattle.std.proofs.Common.{◌≡◌, ◌⊎◌, ◌≤◌, ℕ, zero, suc, Bool, true, false, cond, ◌&&◌, List, [], ◌∷◌, ◌++◌, length, drop, refl, sym, ap, ◌∙◌, inl, inr, true≢false, arith, append_assoc, eq-eqb, ne_eqb}
+use Rattle.std.specs.Prelude.{codes, All}
 use Rattle.std.specs.Str.{bytes_eq}
 use Rattle.ll_token.specs.declared.token.TokenKind.{TokenKind}
 use Rattle.ll_token.specs.declared.token.TokenKind.TheVariants as kinds
 use Rattle.ll_tree.specs.declared.block.Phi.{Phi}
 use Rattle.ll_tree.specs.declared.block.PhiEntry.{PhiEntry}
-use Rattle.ll_tree.specs.declared.block.Instr.{Instr}
 use Rattle.ll_tree.specs.declared.block.End.{End}
 use Rattle.ll_tree.specs.declared.block.End.TheVariants as end
 use Rattle.ll_tree.specs.declared.block.Operand.{Operand}
@@ -15,16 +14,16 @@ use Rattle.ll_tree.specs.declared.op.Op.TheVariants as op
 use Rattle.ll_grammar.specs.declared.block.Item.{Item}
 use Rattle.ll_grammar.specs.declared.block.Item.TheVariants as item
 use Rattle.ll_grammar.specs.declared.stop.Place.TheVariants as place
-use Rattle.ll_grammar.specs.Tokens.{Tok, is_kind, word_at, mark_at, kind_at, name_at, debug_at, is_debug, starts_debug, line_at, behind_line}
+use Rattle.ll_grammar.specs.Tokens.{Tok, is_kind, word_at, mark_at, kind_at, debug_at, is_debug, starts_debug, line_at, behind_line}
 use Rattle.ll_grammar.specs.Reading.{Read, Done, ◌>>=◌, metadatum}
-use Rattle.ll_grammar.specs.Forms.{behind_comma, another, entry, entries, phi, operation, assume, terminator, is_call_word}
+use Rattle.ll_grammar.specs.Forms.{behind_comma, another, entry, entries, phi, is_call_word}
 use Rattle.ll_grammar.specs.Blocks.{metadata_within, metadata, passed_within, passed, assignment, bare_statement, statement}
-use Rattle.ll_grammar.specs.Spells.{IsWord, IsMark, IsNameOf, IsType, SpellsEntry, SpellEntries, SpellsPhi, SpellsOp, SpellsInstr, SpellsResultOf, SpellsEnd, AreMetadata, LeavesLine, ArePassed, IsStatement}
+use Rattle.ll_grammar.specs.Spells.{IsWord, IsMark, IsNameOf, IsType, SpellsEntry, SpellEntries, SpellsOp, SpellsResultOf, SpellsEnd, AreMetadata, LeavesLine, ArePassed, IsStatement}
 use Rattle.ll_grammar.proofs.TokenLaws.{both_true, bytes_same}
 use Rattle.ll_grammar.proofs.OpLaws.{IsValued}
 use Rattle.ll_grammar.proofs.StatementLaws.{SpellsItem}
 use Rattle.ll_grammar.proofs.LengthLaws.{metadata_take, passed_take, entry_takes}
-use Rattle.ll_grammar.proofs.TokenReadLaws.{then_reads, if_reads, else_reads, behind_first, at_word, at_kind, at_mark, at_name, mark_there, kind_there, other_mark, mark_reads, name_reads, metadatum_reads, width_reads}
+use Rattle.ll_grammar.proofs.TokenReadLaws.{then_reads, if_reads, else_reads, behind_first, at_word, at_kind, at_mark, at_name, mark_there, kind_there, mark_reads, name_reads, metadatum_reads, width_reads}
 use Rattle.ll_grammar.proofs.FormReadLaws.{operand_reads, terminator_reads, word_of_end, end_word}
 use Rattle.ll_grammar.proofs.OpReadLaws.{operation_reads, operation_word, assume_reads, call_word, call_is_word}
 

@@ -1,5 +1,5 @@
 -- What the tests of the next token say, and what single tokens write.
-use Rattle.std.proofs.Common.{◌≡◌, ◌⊎◌, ◌+◌, ◌-◌, ◌*◌, ◌/◌, ◌%◌, ◌^◌, ◌<◌, ◌≤◌, ℕ, zero, suc, Bool, true, false, cond, ◌&&◌, eqb, ltb, leb, List, [], ◌∷◌, ◌++◌, drop, Option, Some, None, IfSome, refl, sym, ap, ◌∙◌, inl, inr, arith, true≢false, leb-true, ltb-true, eqb-true, le-leb, lt-ltb, eq-eqb, pow_pos, ne_eqb, ltb-false}
+use Rattle.std.proofs.Common.{◌≡◌, ◌⊎◌, ◌+◌, ◌-◌, ◌*◌, ◌/◌, ◌%◌, ◌^◌, ◌<◌, ◌≤◌, ℕ, Bool, true, false, cond, ◌&&◌, eqb, ltb, leb, List, [], ◌∷◌, ◌++◌, drop, Option, Some, None, refl, sym, ap, ◌∙◌, inl, inr, arith, true≢false, leb-true, ltb-true, eqb-true, le-leb, lt-ltb, eq-eqb, pow_pos, ne_eqb, ltb-false}
 use Rattle.std.proofs.lemmas.Bool.{eqb-false}
 use Rattle.std.specs.Prelude.{codes}
 use Rattle.std.specs.Option.{option_map, option_map_or}
@@ -11,7 +11,7 @@ use Rattle.ll_token.specs.declared.token.TokenKind.{TokenKind}
 use Rattle.ll_token.specs.declared.token.TokenKind.TheVariants as kinds
 use Rattle.ll_grammar.specs.Tokens.{Tok, is_kind, is_empty, word_at, mark_at, kind_at, name_at}
 use Rattle.ll_grammar.specs.Words.{digits_width, width_of, value_below, negated, number_of, bit_of, literal_of}
-use Rattle.ll_grammar.specs.Spells.{IsWord, IsMark, IsNameOf, IsType, IsLiteral, value_behind, WritesNumber, WritesBit}
+use Rattle.ll_grammar.specs.Spells.{IsWord, IsMark, IsNameOf, IsType, value_behind, WritesNumber, WritesBit}
 
 -- ---- tests
 

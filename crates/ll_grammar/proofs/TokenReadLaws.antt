@@ -1,5 +1,5 @@
 -- What spells a token is read as it.
-use Rattle.std.proofs.Common.{◌≡◌, ◌⊎◌, ◌≤◌, ℕ, zero, suc, Bool, true, false, cond, ◌&&◌, eqb, List, [], ◌∷◌, ◌++◌, drop, Option, Some, None, refl, sym, ap, ◌∙◌, inl, inr, true≢false, eq-eqb}
+use Rattle.std.proofs.Common.{◌≡◌, ℕ, Bool, true, false, ◌&&◌, eqb, List, [], ◌∷◌, ◌++◌, drop, Option, Some, None, refl, sym, ap, ◌∙◌, eq-eqb}
 use Rattle.std.specs.Prelude.{codes, if◌then◌else◌}
 use Rattle.std.specs.Option.{option_map_or}
 use Rattle.std.specs.Str.{bytes_eq}
@@ -7,10 +7,10 @@ use Rattle.std.specs.Fmt.{decimal}
 use Rattle.ll_token.specs.declared.token.TokenKind.{TokenKind}
 use Rattle.ll_token.specs.declared.token.TokenKind.TheVariants as kinds
 use Rattle.ll_grammar.specs.declared.stop.Place.{Place}
-use Rattle.ll_grammar.specs.Tokens.{Tok, is_kind, word_at, mark_at, kind_at, name_at, held_name}
+use Rattle.ll_grammar.specs.Tokens.{Tok, is_kind, word_at, mark_at, kind_at, name_at}
 use Rattle.ll_grammar.specs.Words.{width_of, has_width}
 use Rattle.ll_grammar.specs.Reading.{Read, Done, ◌>>=◌, take_if, take_some, mark, keyword, name, metadatum, width, one_width, literal_at, literal}
-use Rattle.ll_grammar.specs.Spells.{Is, IsWord, IsMark, IsNameOf, IsType, IsLiteral}
+use Rattle.ll_grammar.specs.Spells.{IsWord, IsMark, IsNameOf, IsType, IsLiteral}
 use Rattle.ll_grammar.proofs.TokenLaws.{bytes_same, same_bytes, kind_same, width_of_reads, literal_of_reads, none_is}
 
 -- ---- readings put together
