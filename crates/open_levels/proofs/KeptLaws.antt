@@ -1,13 +1,14 @@
 -- Levels stay kept where a step ends on the last one, and where one opens.
-use Rattle.std.proofs.Common.{◌≡◌, ℤ, pos, ◌+ℤ◌, List, [], ◌∷◌, ◌++◌, length, FitsSigned, sym, subst, All}
+use Rattle.std.proofs.Common.{◌≡◌, ◌<◌, ℤ, pos, ◌+ℤ◌, List, [], ◌∷◌, ◌++◌, length, drop, get_or, FitsSigned, sym, subst, All}
 use Rattle.std.specs.Int.{w128}
-use Rattle.std.proofs.lemmas.List.Elements.{All-nil, All-cons, All-push}
+use Rattle.std.proofs.lemmas.List.Elements.{All-nil, All-cons, All-head, All-tail, All-push}
 use Rattle.mix_system.specs.declared.literal.Term.{Term}
 use Rattle.mix_system.specs.System.{System, Exists}
 use Rattle.mix_system.specs.Bounds.{unit_bounds}
 use Rattle.proof_term.specs.declared.proof.Goal.{Goal}
-use Rattle.proof_term.specs.declared.proof.Goal.TheVariants.{Below}
-use Rattle.proof_term.specs.Levels.{box_of}
+use Rattle.proof_term.specs.declared.proof.Goal.TheVariants.{Nothing, AtMost, Below}
+use Rattle.mix_system.specs.declared.literal.Side.TheVariants.{Le}
+use Rattle.proof_term.specs.Levels.{box_of, cut_clause}
 use Rattle.proof_term.specs.Steps.{NamesTerm}
 use Rattle.box_check.specs.Bounds.{IsOver, Stands}
 use Rattle.open_levels.specs.declared.level.EndedStep.{EndedStep}
@@ -16,7 +17,7 @@ use Rattle.open_levels.specs.declared.levels.OpenLevels.{OpenLevels}
 use Rattle.open_levels.specs.Adds.{Adds}
 use Rattle.open_levels.specs.Kept.{levels_of, GoalFits, IsLevel, AreLevels}
 use Rattle.open_levels.proofs.AddsLaws.{Stands-same}
-use Rattle.open_levels.proofs.LevelLaws.{box_with_step}
+use Rattle.open_levels.proofs.LevelLaws.{box_with_step, front_is}
 
 abbrev HasTerms : System → EndedStep → Type 0
 HasTerms system step = All (NamesTerm system) step.clause
@@ -50,3 +51,24 @@ levels_entered system cost old new term bound kept exists fits goal_is ended_is 
   over = over;
   stands = stands;
 }
+
+-- the system has the term of a cut
+pub cut_named : (system : System) (goal : Goal) → GoalFits system goal → All (NamesTerm system) (cut_clause goal)
+cut_named system Nothing fits = All-nil (NamesTerm system)
+cut_named system (AtMost most) fits = All-nil (NamesTerm system)
+cut_named system (Below term bound) fits = All-cons (NamesTerm system) (record { term = term; side = Le; bound = bound }) [] fits.0 (All-nil (NamesTerm system))
+
+pub level_with_step : (system : System) (old new : OpenLevel) (step : EndedStep) → IsLevel system old → All (NamesTerm system) step.clause → new.goal ≡ old.goal
+    → new.ended.items ≡ old.ended.items ++ step ∷ [] → IsLevel system new
+level_with_step system old new step kept named goal_is ended_is = record {
+  named = subst (λ (steps : List EndedStep). All (HasTerms system) steps) (sym ended_is) (All-push (HasTerms system) old.ended.items step kept.named named);
+  goal = subst (λ (g : Goal). GoalFits system g) (sym goal_is) kept.goal;
+}
+
+-- the first of some levels, and the others
+pub first_and_rest : (levels : List OpenLevel) (first : OpenLevel) → 0 < length levels → first ≡ get_or levels 0 first → levels ≡ first ∷ drop 1 levels
+first_and_rest levels first some is = front_is levels 0 first some is
+
+pub outer_kept : (system : System) (levels rest : List OpenLevel) (first : OpenLevel) → levels ≡ first ∷ rest → All (IsLevel system) levels → IsLevel system first × All (IsLevel system) rest
+outer_kept system levels rest first is all =
+    let both = subst (λ (ls : List OpenLevel). All (IsLevel system) ls) is all in (All-head (IsLevel system) first rest both, All-tail (IsLevel system) first rest both)

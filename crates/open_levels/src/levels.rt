@@ -1,7 +1,8 @@
-ghost use Rattle.std.specs.Prelude.{◌≡◌, ◌+◌, ◌+ℤ◌, ◌<◌, [], pos, length, map, IfOk, IsTrue, All, FitsSigned, true};
+ghost use Rattle.std.specs.Prelude.{◌≡◌, ◌+◌, ◌+ℤ◌, ◌<◌, [], pos, length, map, IfOk, MatchOption, All, FitsSigned};
 ghost use Rattle.std.specs.Int.{w128};
 ghost use Rattle.mix_system.specs.System.{Exists};
 ghost use Rattle.proof_term.specs.Steps.{NamesTerm};
+ghost use Rattle.proof_term.specs.Levels.{cut_clause};
 ghost use Rattle.proof_term.specs.Valid.{at_start, has_ended, after_clause, after_enter, closed};
 ghost use Rattle.open_levels.specs.Kept.{level_of, stage_of, AreLevels, GoalFits};
 
@@ -121,4 +122,71 @@ impl OpenLevels {
             bounds,
         })
     }
+
+    /// Whether the newest step of the last level is the empty clause.
+    pub fn has_ended(&self) -> bool
+        ensures { result ≡ has_ended (stage_of self.now) }
+    {
+        let count = self.last.ended.len();
+        if count == 0 {
+            return false;
+        }
+        self.last.ended[count - 1].clause.items().is_empty()
+    }
+
+    /// The levels after the last one was closed, so that its cut has ended on the level around it. `None` exactly where there is none.
+    pub fn closed(
+        self,
+        alloc: Global,
+        system: &System,
+        cost: Term,
+    ) -> Result<Option<OpenLevels>, NoMemory>
+        requires kept { AreLevels system.now cost self }
+        requires cost { Exists (length system.now.ranges) (length system.now.rows) cost }
+        ensures first { IfOk result (λ found. MatchOption found (self.enclosing.items ≡ []) (λ _. 0 < length self.enclosing.items)) }
+        ensures stage { IfOk result (λ found. MatchOption found (Unit {0}) (λ levels. stage_of levels ≡ closed self.next (level_of self.last) (map level_of self.enclosing.items))) }
+        ensures kept { IfOk result (λ found. MatchOption found (Unit {0}) (AreLevels system.now cost)) }
+    {
+        let OpenLevels {
+            next,
+            last,
+            mut enclosing,
+            ..
+        } = self;
+        if enclosing.is_empty() {
+            return Ok(None);
+        }
+        let Some(later) = next.checked_add(1) else {
+            return Err(NoMemory);
+        };
+        let mut outer = enclosing.remove(0);
+        let clause = cut_clause(alloc, last.goal)?;
+        outer.ended.push(EndedStep {
+            number: next,
+            clause,
+            is_cut: true,
+        })?;
+        let bounds = box_of(alloc, system, cost, &outer, enclosing.as_slice())?;
+        Ok(Some(OpenLevels {
+            next: later,
+            last: outer,
+            enclosing,
+            bounds,
+        }))
+    }
+}
+
+// The clause of the cut of a level with that goal.
+fn cut_clause(alloc: Global, goal: Goal) -> Result<Lits, NoMemory>
+    ensures { IfOk result (λ clause. clause ≡ cut_clause goal) }
+{
+    let mut clause = Lits::new(alloc);
+    if let Goal::Below { term, bound } = goal {
+        clause.push(Lit {
+            term,
+            side: Side::Le,
+            bound,
+        })?;
+    }
+    Ok(clause)
 }
