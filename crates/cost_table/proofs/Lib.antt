@@ -1,3 +1,4 @@
+pub mod DifferentLaws
 pub mod DigitLaws
 pub mod KeptLaws
 pub mod LineLaws

@@ -14,7 +14,7 @@ use Rattle.cost_table.proofs.DigitLaws.{decimal_digits}
 use Rattle.cost_table.proofs.NameLaws.{split_back}
 
 -- a line with a name at its front isn't idle
-not_idle : (line written rest name : List ℕ) → line ≡ written ++ 32 ∷ rest → IsLocalName written name → is_idle line ≡ true → ⊥
+pub not_idle : (line written rest name : List ℕ) → line ≡ written ++ 32 ∷ rest → IsLocalName written name → is_idle line ≡ true → ⊥
 not_idle line written rest name form local idle =
     let no : is_idle line ≡ false = rw (form, local.1) refl in
     true≢false (sym idle ∙ no)
@@ -28,7 +28,7 @@ not_name cost written rest name small form local =
     let is : is_digit 37 ≡ true = rw first at digit in
     true≢false (sym is)
 
-not_both : (line name from to : List ℕ) (cost other : ℕ) → IsNamedCost line name cost → IsEdgeLine line from to other → ⊥
+pub not_both : (line name from to : List ℕ) (cost other : ℕ) → IsNamedCost line name cost → IsEdgeLine line from to other → ⊥
 not_both line name from to cost other named edge =
     let back = split_back line named.written (decimal cost) name named.form named.named in
     let rest = split_back line edge.written edge.rest from edge.form edge.named in

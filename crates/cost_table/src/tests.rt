@@ -10,11 +10,10 @@ use wx_base::{Name, NoMemory};
 fn labels(alloc: Global) -> Result<[Name; 3], NoMemory>
     ensures { IfOk result (AllPairs (λ label other. label ≢ other)) }
 {
-    Ok([
-        Name::new(alloc, b"a")?,
-        Name::new(alloc, b"b")?,
-        Name::new(alloc, b"c d")?,
-    ])
+    let first = Name::new(alloc, b"a")?;
+    let second = Name::new(alloc, b"b")?;
+    let quoted = Name::new(alloc, b"c d")?;
+    Ok([first, second, quoted])
 }
 
 // Edges from the first block to the others.
