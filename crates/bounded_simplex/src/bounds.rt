@@ -22,7 +22,8 @@ struct Change {
     before: Option<i128>,
 }
 
-/// The bounds in force on the variables and rows of a system: those of the ranges, and of a list of changes that can be given back.
+/// The bounds in force on the variables and rows of a system: those of the ranges, and of a list
+/// of changes that can be given back.
 ///
 /// Contracts see the system, the list of literals in force, and the room.
 #[derive(Debug, Drop)]
@@ -95,13 +96,18 @@ impl<'a> Bounds<'a> {
         self.room - self.changes.len() as u32
     }
 
-    /// Puts a literal to the bounds, as one change, whether it tightens a bound or not. False exactly where the term's bounds then
-    /// contradict each other; the change is made all the same. It takes no memory.
+    /// Puts a literal to the bounds, as one change, whether it tightens a bound or not. False
+    /// exactly where the term's bounds then contradict each other; the change is made all the same.
+    /// It takes no memory.
     pub fn assert_bound(&mut self, lit: &Lit) -> bool
         requires spare { length self.old.changes < self.old.room }
-        requires exists { Exists (length self.old.system.ranges) (length self.old.system.rows) lit.now.term }
-        ensures changes { self.new ≡ record self.old { changes = self.old.changes ++ lit.now ∷ [] } }
-        ensures answer { (result ≡ false) ↔ Contradict (in_force self.new lit.now.term Side.Ge) (in_force self.new lit.now.term Side.Le) }
+        requires exists { Exists (length self.old.system.ranges)
+            (length self.old.system.rows) lit.now.term }
+        ensures changes { self.new
+            ≡ record self.old { changes = self.old.changes ++ lit.now ∷ [] } }
+        ensures answer { (result ≡ false)
+            ↔ Contradict (in_force self.new lit.now.term Side.Ge)
+            (in_force self.new lit.now.term Side.Le) }
     {
         let lit = *lit;
         self.put(lit);
@@ -112,7 +118,8 @@ impl<'a> Bounds<'a> {
     // Adds the literal as one change.
     fn put(&mut self, lit: Lit)
         requires spare { length self.old.changes < self.old.room }
-        requires exists { Exists (length self.old.system.ranges) (length self.old.system.rows) lit.term }
+        requires exists { Exists (length self.old.system.ranges)
+            (length self.old.system.rows) lit.term }
         ensures { self.new ≡ record self.old { changes = self.old.changes ++ lit ∷ [] } }
     {
         let place = place_of(self.system.vars(), lit.term, lit.side);
@@ -143,7 +150,8 @@ impl<'a> Bounds<'a> {
     // Gives the last change back.
     fn undo(&mut self)
         requires { 0 < length self.old.changes }
-        ensures { self.new ≡ record self.old { changes = take (length self.old.changes - 1) self.old.changes } }
+        ensures { self.new
+            ≡ record self.old { changes = take (length self.old.changes - 1) self.old.changes } }
     {
         if let Some(Change { lit, before }) = self.changes.pop() {
             let place = place_of(self.system.vars(), lit.term, lit.side);
@@ -156,7 +164,8 @@ impl<'a> Bounds<'a> {
         requires { column < length self.now.system.ranges + length self.now.system.rows }
         ensures term { result ≡ term_of (length self.now.system.ranges) column }
         ensures well_formed { IsWellFormed self.now.system }
-        ensures exists { Exists (length self.now.system.ranges) (length self.now.system.rows) result }
+        ensures exists { Exists (length self.now.system.ranges)
+            (length self.now.system.rows) result }
     {
         let vars = self.system.vars();
         if column < vars {
@@ -247,7 +256,8 @@ mod tests {
     use mix_system::Part;
     use std::test::Fail;
 
-    // x in -3 .. 5 and a row: x >= 0, a row at most 7, x >= -2, which doesn't tighten, and x <= -1, which contradicts.
+    // x in -3 .. 5 and a row: x >= 0, a row at most 7, x >= -2, which doesn't tighten, and x <=
+    // -1, which contradicts.
     #[test]
     fn bounds_are_put_and_given_back(rt: HostRuntime) -> Result<(), Fail> {
         let alloc = rt.alloc();

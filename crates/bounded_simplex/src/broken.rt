@@ -13,7 +13,8 @@ use mix_system::Side;
 use tableau_rows::Equation;
 use wx_num::{Excess, Num};
 
-/// An equation, by its place and basic column, whose value lies outside the column's bound on a side.
+/// An equation, by its place and basic column, whose value lies outside the column's bound on a
+/// side.
 #[derive(Clone, Copy, Debug)]
 pub(crate) struct Broken {
     pub(crate) at: usize,
@@ -30,7 +31,8 @@ pub(crate) fn first_broken(
     requires known { AreWithin (columns_of bounds.now.system) rows.now }
     requires values { length values.now ≡ columns_of bounds.now.system }
     ensures none { IfOk result (λ found. IfNone found
-        (All (λ equation. (side : Side) → KeepsBound bounds.now values.now equation side) rows.now)) }
+        (All (λ equation. (side : Side)
+        → KeepsBound bounds.now values.now equation side) rows.now)) }
     ensures broken { IfOk result (λ found. IfSome found (IsBroken bounds.now rows.now values.now)) }
     ensures formed { IfErr result (IsOfEquation bounds.now rows.now values.now) }
     ensures bounded { IfErr result (λ fault. IsOfBounded bounds.now fault.place) }
@@ -76,7 +78,8 @@ fn broken_at(
     requires values { length values.now ≡ columns_of bounds.now.system }
     requires at { at < length rows.now }
     ensures none { IfOk result (λ found. IfNone found
-        ((d : AnEquation) (side : Side) → KeepsBound bounds.now values.now (slice_index_or rows.now at d) side)) }
+        ((d : AnEquation) (side : Side)
+        → KeepsBound bounds.now values.now (slice_index_or rows.now at d) side)) }
     ensures broken { IfOk result (λ found. IfSome found (IsBroken bounds.now rows.now values.now)) }
     ensures formed { IfErr result (IsOfEquation bounds.now rows.now values.now) }
     ensures bounded { IfErr result (λ fault. IsOfBounded bounds.now fault.place) }
@@ -100,7 +103,8 @@ fn broken_side(
     values: &[i128],
     equation: &Equation,
 ) -> Result<Option<Side>, TableauExcess>
-    requires known { All (λ entry. entry.column < columns_of bounds.now.system) equation.now.entries.items }
+    requires known { All
+        (λ entry. entry.column < columns_of bounds.now.system) equation.now.entries.items }
     requires basic { equation.now.basic < columns_of bounds.now.system }
     requires values { length values.now ≡ columns_of bounds.now.system }
     ensures none { IfOk result (λ found. IfNone found
@@ -147,7 +151,8 @@ fn broken_bound(
         (Admits Side.Ge low denominator numerator × Admits Side.Le high denominator numerator)) }
     ensures some { IfOk result (λ found. IfSome found
         (λ side. ¬ Admits side (bound_of low high side) denominator numerator)) }
-    ensures formed { IfErr result (λ excess. IsProduct low denominator excess ⊎ IsProduct high denominator excess) }
+    ensures formed { IfErr result (λ excess. IsProduct low denominator excess
+        ⊎ IsProduct high denominator excess) }
     ensures overflows { IfErr result Overflows }
 {
     match keeps(Side::Ge, low, denominator, numerator) {

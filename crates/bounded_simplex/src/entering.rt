@@ -7,14 +7,16 @@ use crate::Bounds;
 use mix_system::Side;
 use tableau_rows::{Entry, Equation};
 
-/// The least column outside the basis that can move the basic column of an equation upwards, or downwards.
+/// The least column outside the basis that can move the basic column of an equation upwards, or
+/// downwards.
 pub(crate) fn entering(
     bounds: &Bounds<'_>,
     values: &[i128],
     equation: &Equation,
     upwards: bool,
 ) -> Option<u32>
-    requires known { All (λ entry. entry.column < columns_of bounds.now.system) equation.now.entries.items }
+    requires known { All
+        (λ entry. entry.column < columns_of bounds.now.system) equation.now.entries.items }
     requires values { length values.now ≡ columns_of bounds.now.system }
     ensures none { IfNone result (All (λ entry. (entry.column ≡ equation.now.basic)
         ⊎ IsHindered bounds.now upwards (number_at values.now) entry) equation.now.entries.items) }
@@ -33,7 +35,8 @@ pub(crate) fn entering(
 fn stays(bounds: &Bounds<'_>, values: &[i128], basic: u32, entry: Entry, upwards: bool) -> bool
     requires known { entry.column < columns_of bounds.now.system }
     requires values { length values.now ≡ columns_of bounds.now.system }
-    ensures stays { IsTrue result → (entry.column ≡ basic) ⊎ IsHindered bounds.now upwards (number_at values.now) entry }
+    ensures stays { IsTrue result
+        → (entry.column ≡ basic) ⊎ IsHindered bounds.now upwards (number_at values.now) entry }
     ensures moves { IsFalse result → basic ≢ entry.column }
 {
     if entry.column == basic {

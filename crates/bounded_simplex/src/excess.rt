@@ -13,7 +13,8 @@ pub enum Place {
         basic: Term,
         bound: i128,
     },
-    /// A pivot in which `entering` takes the place of `basic`: the equation of `changed` is formed anew.
+    /// A pivot in which `entering` takes the place of `basic`: the equation of `changed` is formed
+    /// anew.
     Pivot {
         basic: Term,
         entering: Term,

@@ -22,16 +22,19 @@ impl Simplex<'_> {
     /// Looks for a rational point inside all bounds in force, by pivots; it counts one check.
     /// The bounds and their changes stay as they are.
     ///
-    /// `Spent` comes exactly where the budget was spent before. After `NoMemory` the simplex is one of the same system
-    /// and bounds.
+    /// `Spent` comes exactly where the budget was spent before. After `NoMemory` the simplex is one
+    /// of the same system and bounds.
     pub fn check(&mut self, alloc: Global, tally: &mut Tally) -> Result<Check, NoMemory>
         ensures bounds { self.new.bounds ≡ self.old.bounds }
         ensures answer { IfOk result
-            (Answers self.new.bounds self.new.tableau.rows.items self.new.values.items self.new.made) }
+            (Answers self.new.bounds self.new.tableau.rows.items self.new.values.items
+            self.new.made) }
         ensures made { self.new.made ≤ pivot_bound self.new.bounds.system }
         ensures point { IfOk result (λ check. self.new.has_point ≡ is_point check) }
-        ensures spent { IfOk result (λ check. IsSpent check ↔ (units tally.old ≡ tally.old.budget)) }
-        ensures counted { units tally.old ≢ tally.old.budget → CountsOne Work.Check tally.old tally.new }
+        ensures spent { IfOk result (λ check. IsSpent check
+            ↔ (units tally.old ≡ tally.old.budget)) }
+        ensures counted { units tally.old ≢ tally.old.budget
+            → CountsOne Work.Check tally.old tally.new }
         ensures unchanged { units tally.old ≡ tally.old.budget → tally.new ≡ tally.old }
     {
         self.made = 0;
@@ -53,7 +56,8 @@ impl Simplex<'_> {
         requires no_point { self.old.has_point ≡ false }
         ensures bounds { self.new.bounds ≡ self.old.bounds }
         ensures answer { IfOk result
-            (Answers self.new.bounds self.new.tableau.rows.items self.new.values.items self.new.made) }
+            (Answers self.new.bounds self.new.tableau.rows.items self.new.values.items
+            self.new.made) }
         ensures made { self.new.made ≤ pivot_bound self.new.bounds.system }
         ensures point { IfOk result (λ check. self.new.has_point ≡ is_point check) }
         ensures not_spent { IfOk result (λ check. ¬ IsSpent check) }
@@ -86,7 +90,8 @@ impl Simplex<'_> {
     fn entering_for(&self, broken: Broken, upwards: bool) -> Option<u32>
         requires { broken.at < length self.now.tableau.rows.items }
         ensures none { IfNone result ((d : AnEquation)
-            → All (λ entry. (entry.column ≡ (slice_index_or self.now.tableau.rows.items broken.at d).basic)
+            → All (λ entry. (entry.column
+            ≡ (slice_index_or self.now.tableau.rows.items broken.at d).basic)
             ⊎ IsHindered self.now.bounds upwards (number_at self.now.values.items) entry)
             (slice_index_or self.now.tableau.rows.items broken.at d).entries.items) }
         ensures takes { IfSome result (λ column. (d : AnEquation)
@@ -100,14 +105,17 @@ impl Simplex<'_> {
 
     // The refutation by a broken equation of which no column can move.
     fn refuted(&self, alloc: Global, broken: Broken, upwards: bool) -> Result<Check, NoMemory>
-        requires broken { IsBroken self.now.bounds self.now.tableau.rows.items self.now.values.items broken }
+        requires broken { IsBroken self.now.bounds self.now.tableau.rows.items
+            self.now.values.items broken }
         requires upwards { broken.side ≡ side_of upwards }
         requires stays { (d : AnEquation)
-            → All (λ entry. (entry.column ≡ (slice_index_or self.now.tableau.rows.items broken.at d).basic)
+            → All (λ entry. (entry.column
+            ≡ (slice_index_or self.now.tableau.rows.items broken.at d).basic)
             ⊎ IsHindered self.now.bounds upwards (number_at self.now.values.items) entry)
             (slice_index_or self.now.tableau.rows.items broken.at d).entries.items }
         ensures answer { IfOk result
-            (Answers self.now.bounds self.now.tableau.rows.items self.now.values.items self.now.made) }
+            (Answers self.now.bounds self.now.tableau.rows.items self.now.values.items
+            self.now.made) }
         ensures no_point { IfOk result (λ check. is_point check ≡ false) }
         ensures not_spent { IfOk result (λ check. ¬ IsSpent check) }
     {
@@ -124,27 +132,33 @@ impl Simplex<'_> {
         }
     }
 
-    // The pivot by which a column takes the place of a broken basic one, which leaves the basis at the bound that it broke.
+    // The pivot by which a column takes the place of a broken basic one, which leaves the basis at
+    // the bound that it broke.
     fn exchange(
         &mut self,
         alloc: Global,
         broken: Broken,
         column: u32,
     ) -> Result<Result<(), TableauExcess>, NoMemory>
-        requires broken { IsBroken self.old.bounds self.old.tableau.rows.items self.old.values.items broken }
+        requires broken { IsBroken self.old.bounds self.old.tableau.rows.items
+            self.old.values.items broken }
         requires in_bounds { AreInBounds self.old.bounds self.old.values.items }
-        requires takes { (d : AnEquation) → taken (slice_index_or self.old.tableau.rows.items broken.at d) column ≢ pos 0 }
-        requires enters { (d : AnEquation) → (slice_index_or self.old.tableau.rows.items broken.at d).basic ≢ column }
+        requires takes { (d : AnEquation)
+            → taken (slice_index_or self.old.tableau.rows.items broken.at d) column ≢ pos 0 }
+        requires enters { (d : AnEquation)
+            → (slice_index_or self.old.tableau.rows.items broken.at d).basic ≢ column }
         requires few_made { self.old.made + 1 < 2 ^ 64 }
         ensures bounds { self.new.bounds ≡ self.old.bounds }
         ensures has_point { self.new.has_point ≡ self.old.has_point }
-        ensures in_bounds { IfOk result (λ found. OnOk found (AreInBounds self.new.bounds self.new.values.items)) }
+        ensures in_bounds { IfOk result
+            (λ found. OnOk found (AreInBounds self.new.bounds self.new.values.items)) }
         ensures made { IfOk result (λ found. OnOk found (self.new.made ≡ self.old.made + 1)) }
         ensures not_made { IfOk result (λ found. OnErr found (self.new.made ≡ self.old.made)) }
         ensures no_memory { OnErr result (self.new.made ≡ self.old.made) }
         ensures excess { IfOk result (λ found. IfErr found
             (IsEvent self.new.bounds self.new.tableau.rows.items self.new.values.items)) }
-        ensures bounded { IfOk result (λ found. IfErr found (λ fault. IsOfBounded self.new.bounds fault.place)) }
+        ensures bounded { IfOk result (λ found. IfErr found
+            (λ fault. IsOfBounded self.new.bounds fault.place)) }
     {
         let basic = self.bounds.term_at(broken.basic);
         let entering = self.bounds.term_at(column);

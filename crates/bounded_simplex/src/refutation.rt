@@ -18,15 +18,17 @@ use wx_num::{Excess, Num};
 /// The combination of bounds in force by which an equation refutes them: each column is counted as
 /// often as the equation takes it, or, downwards, with the other sign.
 ///
-/// `None` where a bound is wanting, or where these bounds don't contradict each other. So there is one
-/// wherever each column stands at its bound and the sum of these isn't 0 on the side that is asked.
+/// `None` where a bound is wanting, or where these bounds don't contradict each other. So there is
+/// one wherever each column stands at the bound that hinders it and these numbers, as often as the
+/// equation takes them, add up to less than 0, or, downwards, to more.
 pub fn refute(
     alloc: Global,
     bounds: &Bounds<'_>,
     equation: &Equation,
     upwards: bool,
 ) -> Result<Result<Option<Farkas>, Excess>, NoMemory>
-    requires within { All (λ entry. entry.column < columns_of bounds.now.system) equation.now.entries.items }
+    requires within { All
+        (λ entry. entry.column < columns_of bounds.now.system) equation.now.entries.items }
     requires cancels { (var : ℕ)
         → total (times_in_column bounds.now.system var) equation.now.entries.items ≡ pos 0 }
     ensures refutes { IfOk result (λ found. IfOk found (λ farkas. IfSome farkas
@@ -103,7 +105,8 @@ pub fn contradiction(
     }))
 }
 
-/// The two bounds of the first term whose bounds contradict each other, `None` where there is no such term.
+/// The two bounds of the first term whose bounds contradict each other, `None` where there is no
+/// such term.
 pub(crate) fn first_contradiction(
     alloc: Global,
     bounds: &Bounds<'_>,
@@ -112,7 +115,8 @@ pub(crate) fn first_contradiction(
         (λ f. FarkasRefutes bounds.now.system.rows (box_of bounds.now) f.parts)) }
     ensures says { IfOk result (λ found. IfSome found
         (λ f. All (λ part. SaysInForce bounds.now part.lit) f.parts)) }
-    ensures none { IfOk result (λ found. IfNone found ((column : ℕ) → column < columns_of bounds.now.system
+    ensures none { IfOk result (λ found. IfNone found ((column : ℕ)
+        → column < columns_of bounds.now.system
         → ¬ Contradict (bound_on bounds.now column Side.Ge) (bound_on bounds.now column Side.Le))) }
 {
     for column in 0..bounds.columns() {
@@ -157,7 +161,8 @@ fn part_of(bounds: &Bounds<'_>, entry: Entry, upwards: bool) -> Result<Option<Fa
 
 // The bound in force on a term's side, so many times.
 fn part_at(bounds: &Bounds<'_>, term: Term, side: Side, by: i128) -> Option<FarkasPart>
-    requires exists { Exists (length bounds.now.system.ranges) (length bounds.now.system.rows) term }
+    requires exists { Exists (length bounds.now.system.ranges)
+        (length bounds.now.system.rows) term }
     requires once { pos 1 ≤ℤ by }
     ensures term { IfSome result (λ part. part.lit.term ≡ term) }
     ensures side { IfSome result (λ part. part.lit.side ≡ side) }

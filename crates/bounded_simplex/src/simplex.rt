@@ -10,8 +10,9 @@ use mix_system::{Lit, Side, System, Term};
 use std::alloc::Global;
 use wx_base::NoMemory;
 
-/// The exact simplex: the bounds in force on a system, a tableau of it, and the value of each column.
-/// The values of the basic columns are those that the tableau gives; what is stored for them isn't read.
+/// The exact simplex: the bounds in force on a system, a tableau of it, and the value of each
+/// column. The values of the basic columns are those that the tableau gives; what is stored for
+/// them isn't read.
 #[derive(Debug, Drop)]
 pub struct Simplex<'a> {
     pub bounds: Bounds<'a>,
@@ -26,8 +27,7 @@ pub struct Simplex<'a> {
 }
 
 impl<'a> Simplex<'a> {
-    /// The simplex of a system, with room for so many changes of bounds and none made. The basis is the rows, and each
-    /// variable has the least value of its range.
+    /// The simplex of a system, with room for so many changes of bounds, and none made.
     pub fn new(alloc: Global, system: &'a System, room: u32) -> Result<Simplex<'a>, NoMemory>
         ensures system { IfOk result (λ simplex. simplex.bounds.system ≡ system.entry.now) }
         ensures changes { IfOk result (λ simplex. simplex.bounds.changes ≡ []) }
@@ -61,14 +61,18 @@ impl<'a> Simplex<'a> {
         self.bounds.spare()
     }
 
-    /// Puts a literal to the bounds, as one change, whether it tightens a bound or not. False exactly where the term's
-    /// bounds then contradict each other; the change is made all the same. It takes no memory.
+    /// Puts a literal to the bounds, as one change, whether it tightens a bound or not. False
+    /// exactly where the term's bounds then contradict each other; the change is made all the same.
+    /// It takes no memory.
     pub fn assert_bound(&mut self, lit: &Lit) -> bool
         requires spare { length self.old.bounds.changes < self.old.bounds.room }
-        requires exists { Exists (length self.old.bounds.system.ranges) (length self.old.bounds.system.rows) lit.now.term }
-        ensures changes { self.new.bounds ≡ record self.old.bounds { changes = self.old.bounds.changes ++ lit.now ∷ [] } }
+        requires exists { Exists (length self.old.bounds.system.ranges)
+            (length self.old.bounds.system.rows) lit.now.term }
+        ensures changes { self.new.bounds
+            ≡ record self.old.bounds { changes = self.old.bounds.changes ++ lit.now ∷ [] } }
         ensures answer { (result ≡ false)
-            ↔ Contradict (in_force self.new.bounds lit.now.term Side.Ge) (in_force self.new.bounds lit.now.term Side.Le) }
+            ↔ Contradict (in_force self.new.bounds lit.now.term Side.Ge)
+            (in_force self.new.bounds lit.now.term Side.Le) }
         ensures tableau { self.new.tableau ≡ self.old.tableau }
         ensures values { self.new.values.items ≡ self.old.values.items }
         ensures made { self.new.made ≡ self.old.made }
@@ -85,10 +89,12 @@ impl<'a> Simplex<'a> {
         self.bounds.mark()
     }
 
-    /// Keeps just the first changes, as many as there were at the mark. The tableau stays as it is. It takes no memory.
+    /// Keeps just the first changes, as many as there were at the mark. The tableau stays as it
+    /// is. It takes no memory.
     pub fn back_to(&mut self, mark: Mark)
         requires { mark.changes ≤ length self.old.bounds.changes }
-        ensures changes { self.new.bounds ≡ record self.old.bounds { changes = take mark.changes self.old.bounds.changes } }
+        ensures changes { self.new.bounds
+            ≡ record self.old.bounds { changes = take mark.changes self.old.bounds.changes } }
         ensures tableau { self.new.tableau ≡ self.old.tableau }
         ensures values { self.new.values.items ≡ self.old.values.items }
         ensures made { self.new.made ≡ self.old.made }
@@ -100,7 +106,8 @@ impl<'a> Simplex<'a> {
 
     /// The lower bound in force, `None` where the term has none.
     pub fn low(&self, term: Term) -> Option<i128>
-        requires { Exists (length self.now.bounds.system.ranges) (length self.now.bounds.system.rows) term }
+        requires { Exists (length self.now.bounds.system.ranges)
+            (length self.now.bounds.system.rows) term }
         ensures { result ≡ in_force self.now.bounds term Side.Ge }
     {
         self.bounds.low(term)
@@ -108,7 +115,8 @@ impl<'a> Simplex<'a> {
 
     /// The upper bound in force, `None` where the term has none.
     pub fn high(&self, term: Term) -> Option<i128>
-        requires { Exists (length self.now.bounds.system.ranges) (length self.now.bounds.system.rows) term }
+        requires { Exists (length self.now.bounds.system.ranges)
+            (length self.now.bounds.system.rows) term }
         ensures { result ≡ in_force self.now.bounds term Side.Le }
     {
         self.bounds.high(term)

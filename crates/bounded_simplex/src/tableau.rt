@@ -11,7 +11,8 @@ use tableau_rows::Equation;
 use wx_base::NoMemory;
 use wx_num::Excess;
 
-/// A step of a pivot that would overflow, where the equation of the column `changed` is formed anew.
+/// A step of a pivot that would overflow, where the equation of the column `changed` is formed
+/// anew.
 #[derive(Clone, Copy, Debug, PartialEq, Eq)]
 pub struct PivotExcess {
     pub changed: u32,
@@ -29,7 +30,9 @@ impl Tableau {
     /// The tableau of a system whose basis is the rows: the equation of each row, in their order.
     pub fn new(alloc: Global, system: &System) -> Result<Tableau, NoMemory>
         ensures tableau_of { IfOk result (λ tableau. TableauOf system.now tableau.rows.items) }
-        ensures rows { IfOk result (λ tableau. (k : ℕ) (d : AnEquation) → k < length tableau.rows.items → IsOfRow system.now k (slice_index_or tableau.rows.items k d)) }
+        ensures rows { IfOk result (λ tableau. (k : ℕ) (d : AnEquation)
+            → k < length tableau.rows.items
+            → IsOfRow system.now k (slice_index_or tableau.rows.items k d)) }
     {
         let vars = system.vars();
         let mut rows = Vec::with_capacity(alloc, system.rows() as usize)?;
@@ -42,7 +45,8 @@ impl Tableau {
     /// How often the equation at a place takes a column.
     pub fn coefficient(&self, at: usize, column: u32) -> i128
         requires { at < length self.now.rows.items }
-        ensures { (d : AnEquation) → result ≡ taken (slice_index_or self.now.rows.items at d) column }
+        ensures { (d : AnEquation)
+            → result ≡ taken (slice_index_or self.now.rows.items at d) column }
     {
         self.rows[at].coefficient(column)
     }
@@ -55,8 +59,9 @@ impl Tableau {
         self.rows[at].basic
     }
 
-    /// A pivot on the equation at a place: the column `entering` enters the basis in the place of its basic column.
-    /// All other equations take the entering column no more, and the equations have the same solutions as before.
+    /// A pivot on the equation at a place: the column `entering` enters the basis in the place of
+    /// its basic column. All other equations take the entering column no more, and the equations
+    /// have the same solutions as before.
     ///
     /// Where a step would overflow, or memory is wanting, the tableau stands as before.
     pub fn pivot(
@@ -66,13 +71,18 @@ impl Tableau {
         entering: u32,
     ) -> Result<Result<(), PivotExcess>, NoMemory>
         requires at { at < length self.old.rows.items }
-        requires takes { (d : AnEquation) → taken (slice_index_or self.old.rows.items at d) entering ≢ pos 0 }
-        requires enters { (d : AnEquation) → (slice_index_or self.old.rows.items at d).basic ≢ entering }
-        ensures pivoted { IfOk result (λ found. OnOk found (ArePivoted at entering self.old.rows.items self.new.rows.items)) }
-        ensures same_solutions { (number : ℕ → ℤ) → AllHold self.old.rows.items number ↔ AllHold self.new.rows.items number }
+        requires takes { (d : AnEquation)
+            → taken (slice_index_or self.old.rows.items at d) entering ≢ pos 0 }
+        requires enters { (d : AnEquation)
+            → (slice_index_or self.old.rows.items at d).basic ≢ entering }
+        ensures pivoted { IfOk result
+            (λ found. OnOk found (ArePivoted at entering self.old.rows.items self.new.rows.items)) }
+        ensures same_solutions { (number : ℕ → ℤ)
+            → AllHold self.old.rows.items number ↔ AllHold self.new.rows.items number }
         ensures unchanged { IfOk result (λ found. OnErr found (self.new ≡ self.old)) }
         ensures no_memory { OnErr result (self.new ≡ self.old) }
-        ensures excess { IfOk result (λ found. IfErr found (λ e. IsPivotExcess self.old.rows.items at entering e.changed e.excess)) }
+        ensures excess { IfOk result (λ found. IfErr found
+            (λ e. IsPivotExcess self.old.rows.items at entering e.changed e.excess)) }
     {
         match fresh_rows(alloc, &self.rows, at, entering)? {
             Ok(fresh) => {
@@ -94,9 +104,12 @@ fn fresh_rows(
     requires apart { AreApart rows.now }
     requires at { at < length rows.now }
     requires takes { (d : AnEquation) → taken (slice_index_or rows.now at d) entering ≢ pos 0 }
-    ensures as_many { IfOk result (λ found. IfOk found (λ fresh. length fresh.items ≡ length rows.now)) }
-    ensures fresh { IfOk result (λ found. IfOk found (λ fresh. (k : ℕ) (o : Option AnEquation) → k < length rows.now → IsFresh rows.now at entering k (slice_index_or fresh.items k o))) }
-    ensures excess { IfOk result (λ found. IfErr found (λ e. IsPivotExcess rows.now at entering e.changed e.excess)) }
+    ensures as_many { IfOk result (λ found. IfOk found (λ fresh. length fresh.items
+        ≡ length rows.now)) }
+    ensures fresh { IfOk result (λ found. IfOk found (λ fresh. (k : ℕ) (o : Option AnEquation)
+        → k < length rows.now → IsFresh rows.now at entering k (slice_index_or fresh.items k o))) }
+    ensures excess { IfOk result (λ found. IfErr found
+        (λ e. IsPivotExcess rows.now at entering e.changed e.excess)) }
 {
     let mut fresh = Vec::with_capacity(alloc, rows.len())?;
     for place in 0..rows.len() {

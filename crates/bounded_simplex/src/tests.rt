@@ -28,7 +28,8 @@ fn lit_of(word: &str) -> Option<Lit> {
 
 fn exists(simplex: &Simplex<'_>, term: Term) -> bool
     ensures { IsTrue result
-        → Exists (length simplex.now.bounds.system.ranges) (length simplex.now.bounds.system.rows) term }
+        → Exists (length simplex.now.bounds.system.ranges)
+        (length simplex.now.bounds.system.rows) term }
 {
     match term {
         Term::Var(var) => var < simplex.system().vars(),
@@ -126,7 +127,8 @@ fn bounds_of_a_sum(rt: HostRuntime) -> Result<(), Fail> {
     Ok(())
 }
 
-// Three times a variable from 0 to 5, an empty row, and twice the first with twice the second variable.
+// Three times a variable from 0 to 5, an empty row, and twice the first with twice the second
+// variable.
 #[test]
 fn rows_of_other_coefficients(rt: HostRuntime) -> Result<(), Fail> {
     let alloc = rt.alloc();

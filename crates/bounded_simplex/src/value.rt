@@ -10,15 +10,19 @@ use mix_system::Term;
 use tableau_rows::Equation;
 
 impl Simplex<'_> {
-    /// The value of a term at the point that the last check kept. The check answered `Point`, and no bound changed since.
+    /// The value of a term at the point that the last check kept. The check answered `Point`, and
+    /// no bound changed since.
     pub fn value(&self, term: Term) -> Result<Ratio, TableauExcess>
-        requires exists { Exists (length self.now.bounds.system.ranges) (length self.now.bounds.system.rows) term }
+        requires exists { Exists (length self.now.bounds.system.ranges)
+            (length self.now.bounds.system.rows) term }
         requires point { self.now.has_point ≡ true }
         ensures value { IfOk result (λ ratio. (denominator : ℤ) (number : ℕ → ℤ)
-            → IsKeptPoint self.now.bounds.system self.now.tableau.rows.items self.now.values.items denominator number
+            → IsKeptPoint self.now.bounds.system self.now.tableau.rows.items
+            self.now.values.items denominator number
             → ratio.num *ℤ denominator
             ≡ number (column_of_term (length self.now.bounds.system.ranges) term) *ℤ ratio.den) }
-        ensures excess { IfErr result (IsEvent self.now.bounds self.now.tableau.rows.items self.now.values.items) }
+        ensures excess { IfErr result
+            (IsEvent self.now.bounds self.now.tableau.rows.items self.now.values.items) }
     {
         let column = self.column_of(term);
         match row_of(&self.tableau.rows, column) {
@@ -31,10 +35,12 @@ impl Simplex<'_> {
     fn basic_value(&self, at: usize) -> Result<Ratio, TableauExcess>
         requires { at < length self.now.tableau.rows.items }
         ensures value { IfOk result (λ ratio. (d : AnEquation) (denominator : ℤ) (number : ℕ → ℤ)
-            → IsKeptPoint self.now.bounds.system self.now.tableau.rows.items self.now.values.items denominator number
+            → IsKeptPoint self.now.bounds.system self.now.tableau.rows.items
+            self.now.values.items denominator number
             → ratio.num *ℤ denominator
             ≡ number (slice_index_or self.now.tableau.rows.items at d).basic *ℤ ratio.den) }
-        ensures excess { IfErr result (IsEvent self.now.bounds self.now.tableau.rows.items self.now.values.items) }
+        ensures excess { IfErr result
+            (IsEvent self.now.bounds self.now.tableau.rows.items self.now.values.items) }
     {
         let equation = &self.tableau.rows[at];
         let basic = self.bounds.term_at(equation.basic);
@@ -49,7 +55,8 @@ impl Simplex<'_> {
 
     // The column of a term.
     fn column_of(&self, term: Term) -> u32
-        requires { Exists (length self.now.bounds.system.ranges) (length self.now.bounds.system.rows) term }
+        requires { Exists (length self.now.bounds.system.ranges)
+            (length self.now.bounds.system.rows) term }
         ensures column { result ≡ column_of_term (length self.now.bounds.system.ranges) term }
         ensures within { result < length self.now.bounds.system.ranges + length self.now.bounds.system.rows }
     {
@@ -64,7 +71,8 @@ impl Simplex<'_> {
 fn row_of(rows: &[Equation], column: u32) -> Option<usize>
     ensures none { IfNone result (IsOutside rows.now column) }
     ensures within { IfSome result (λ at. at < length rows.now) }
-    ensures basic { IfSome result (λ at. (d : AnEquation) → (slice_index_or rows.now at d).basic ≡ column) }
+    ensures basic { IfSome result (λ at. (d : AnEquation)
+        → (slice_index_or rows.now at d).basic ≡ column) }
 {
     for at in 0..rows.len() {
         if rows[at].basic == column {
