@@ -1,4 +1,4 @@
-use Rattle.std.proofs.Common.{◌∙◌, ap, length}
+use Rattle.std.proofs.Common.{ap, length}
 use Rattle.flat_lists.proofs.PieceLaws.{closed, closed_ends}
 use Rattle.flat_lists.proofs.lists.FlatLists.close.Goals as goal
 

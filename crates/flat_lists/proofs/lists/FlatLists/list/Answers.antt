@@ -1,4 +1,4 @@
-use Rattle.std.proofs.Common.{◌∙◌, ◌<◌, ap, length, rules}
+use Rattle.std.proofs.Common.{◌<◌, ap, length, rules}
 use Rattle.flat_lists.proofs.PieceLaws.{bounds_of, list_at}
 use Rattle.flat_lists.proofs.lists.FlatLists.list.Goals as goal
 use Rattle.std.proofs.Common.{refl, get_or, ◌∷◌, arith}
