@@ -1,5 +1,5 @@
 -- Edges and the targets that they come from.
-use Rattle.std.proofs.Common.{◌≡◌, ◌<◌, ◌≤◌, ◌+◌, ℕ, zero, suc, List, [], ◌∷◌, ◌++◌, length, get_or, drop, map, Option, Some, None, refl, sym, ◌∙◌, ap, subst, arith, inl, inr, ◌⊎◌}
+use Rattle.std.proofs.Common.{◌≡◌, ◌≤◌, ◌+◌, ℕ, zero, suc, List, [], ◌∷◌, ◌++◌, length, drop, map, Option, Some, None, refl, sym, ◌∙◌, ap, subst, arith, inl, inr, ◌⊎◌}
 use Rattle.std.specs.Prelude.{Contains, ◌↔◌}
 use Rattle.std.proofs.Math.ListN.{drop_of_length-le}
 use Rattle.std.proofs.lemmas.List.{append-nil}
@@ -8,11 +8,11 @@ use Rattle.ll_tree.specs.declared.block.Block.{Block}
 use Rattle.ll_tree.specs.declared.block.Case.{Case}
 use Rattle.ll_tree.specs.declared.block.End.{End}
 use Rattle.ll_tree.specs.declared.block.End.TheVariants as end
-use Rattle.ll_rules.specs.Items.{Part, Use, Goal, end_parts, targets_of}
+use Rattle.ll_rules.specs.Items.{Goal, end_parts, targets_of}
 use Rattle.name_table.specs.Names.{place_of}
 use Rattle.flow_graph.specs.declared.edge.Edge.{Edge}
 use Rattle.flow_graph.specs.Paths.{HasEdge}
-use Rattle.ll_edges.specs.Graph.{to_place, edge_to, edge_of, edges_from, edges_in, IsBlockAt, LeadsTo}
+use Rattle.ll_edges.specs.Graph.{to_place, edge_to, edges_from, edges_in, LeadsTo}
 
 no_item : {X : Type 0} (x : X) → Contains {X = X} [] x → ⊥
 no_item x there = omega (arith, there.1)

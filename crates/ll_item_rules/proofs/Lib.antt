@@ -1,4 +1,3 @@
 mod CaseLaws
 mod FirstLaws
-mod PartLaws
 mod ValueLaws

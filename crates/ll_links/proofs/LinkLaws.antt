@@ -1,14 +1,11 @@
 -- Numbers of what items name, taken one after the other.
-use Rattle.std.proofs.Common.{◌≡◌, ◌<◌, ◌≤◌, ◌+◌, ℕ, Bool, true, false, cond, List, [], ◌∷◌, ◌++◌, length, get_or, take, drop, map, Option, Some, None, refl, sym, ◌∙◌, ap, subst, append_assoc, Result, Ok, Err}
+use Rattle.std.proofs.Common.{◌≡◌, ◌≤◌, ℕ, false, cond, List, [], ◌∷◌, length, take, map, Option, Some, None, refl, sym, ◌∙◌, ap, subst}
 use Rattle.std.specs.Option.{option_map, is_some}
-use Rattle.std.proofs.lemmas.List.{take_more, drop_more, take_all, map-append, append-nil}
+use Rattle.std.proofs.lemmas.List.{take_all}
 use Rattle.std.proofs.lemmas.List.Elements.{All-head, All-tail}
-use Rattle.ll_tree.specs.declared.block.Operand.{Operand}
 use Rattle.ll_tree.specs.declared.block.Operand.TheVariants as operand
 use Rattle.ll_rules.specs.Items.{Part, Use, Goal, parts_of}
-use Rattle.ll_items.specs.declared.parts.PartRef.{PartRef}
 use Rattle.ll_items.specs.declared.sites.SiteRef.{SiteRef}
-use Rattle.ll_items.specs.Parts.{part_of}
 use Rattle.ll_items.specs.Sites.{Site, site_of}
 use Rattle.name_table.specs.Names.{place_of}
 use Rattle.ll_item_rules.specs.First.{NoneFails}

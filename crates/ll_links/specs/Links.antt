@@ -6,9 +6,6 @@ use Rattle.ll_tree.specs.declared.block.Operand.TheVariants as operand
 use Rattle.ll_rules.specs.Items.{Part, Use, Goal, parts_of}
 use Rattle.ll_items.specs.Sites.{Site}
 use Rattle.name_table.specs.Names.{place_of}
-use Rattle.ll_links.specs.declared.link.ValueId.{ValueId}
-use Rattle.ll_links.specs.declared.link.BlockId.{BlockId}
-use Rattle.ll_links.specs.declared.link.Source.{Source}
 use Rattle.ll_links.specs.declared.link.Source.TheVariants as source
 use Rattle.ll_links.specs.declared.link.Link.{Link}
 use Rattle.ll_links.specs.declared.link.Link.TheVariants as link

@@ -1,6 +1,6 @@
 -- A function within the limits has few values and blocks.
-use Rattle.std.proofs.Common.{◌≡◌, ◌<◌, ◌≤◌, ◌+◌, ◌^◌, ℕ, List, [], ◌∷◌, ◌++◌, length, map, Option, Some, None, refl, sym, ◌∙◌, ap, arith}
-use Rattle.std.specs.List.{flat_map, sum_by}
+use Rattle.std.proofs.Common.{◌≡◌, ◌<◌, ◌≤◌, ◌+◌, ◌^◌, ℕ, List, [], ◌∷◌, length, map, Option, Some, None, ap, arith}
+use Rattle.std.specs.List.{flat_map}
 use Rattle.std.proofs.lemmas.List.{length-append, length-map}
 use Rattle.std.proofs.lemmas.List.Concat.{length-flat_map}
 use Rattle.std.proofs.lemmas.List.Sums.{sum_by-le-sum_by}
@@ -10,7 +10,7 @@ use Rattle.ll_tree.specs.declared.block.Block.{Block}
 use Rattle.ll_tree.specs.declared.block.Phi.{Phi}
 use Rattle.ll_tree.specs.declared.block.Instr.{Instr}
 use Rattle.ll_rules.specs.Items.{block_values, values_of, labels_of, named, result_width}
-use Rattle.ll_rules.specs.Limits.{KeepsLimits, count_values}
+use Rattle.ll_rules.specs.Limits.{KeepsLimits}
 
 at_most_one : (name : List ℕ) (width : Option ℕ) → length (named name width) ≤ 1
 at_most_one name None = omega arith

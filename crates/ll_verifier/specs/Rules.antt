@@ -1,5 +1,5 @@
 -- The rules for the items of a function, in order, and what breaks them.
-use Rattle.std.specs.Prelude.{◌≡◌, ℕ, List, [], ◌∷◌, map, Bool, Option, Some, None, is_some, slice_index_or}
+use Rattle.std.specs.Prelude.{◌≡◌, ℕ, List, [], Bool, Option, Some, is_some, slice_index_or}
 use Rattle.ll_tree.specs.declared.func.Func.{Func}
 use Rattle.ll_rules.specs.Items.{labels_of, names_of, values_of, parts_of}
 use Rattle.ll_rules.specs.Limits.{KeepsLimits, IsFirstExcess}

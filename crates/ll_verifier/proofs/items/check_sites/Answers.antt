@@ -1,4 +1,4 @@
-use Rattle.ll_verifier.proofs.CountLaws.{few_values, few_blocks}
+use Rattle.ll_verifier.proofs.CountLaws.{few_values}
 use Rattle.ll_verifier.proofs.items.check_sites.Goals as goal
 
 pub resolve-requires-clause-few_values : goal.resolve-requires-clause-few_values

@@ -1,1 +1,0 @@
--- Parts taken one after the other.
