@@ -11,3 +11,4 @@ pub mod EachLaws
 pub mod PointLaws
 pub mod StepLaws
 pub mod RatioLaws
+pub mod CombinationLaws

@@ -1,6 +1,6 @@
 -- Numbers in lowest terms, and the value that they are.
 use Rattle.std.proofs.Common.{◌≡◌, ◌≢◌, ℕ, zero, suc, ◌*◌, ◌<◌, ◌^◌, List, [], ◌∷◌, length, get_or, Result, Ok, Err, FitsSigned, ℤ, pos, negsuc, ◌-ℤ◌, ◌*ℤ◌, ◌≤ℤ◌, sym, ap, ◌∙◌, subst, arith}
-use Rattle.std.specs.Prelude.{unsigned_abs, IfOk}
+use Rattle.std.specs.Prelude.{unsigned_abs, IfOk, IfErr}
 use Rattle.tableau_rows.specs.declared.equation.Equation.{Equation}
 use Rattle.std.specs.Int.{◌∣◌, IsGcd, w128}
 use Rattle.std.proofs.lemmas.List.{get_or_default}
@@ -57,3 +57,7 @@ ok_weaker (Err e) f h = h
 pub with_row : {Q : Type 0} (rows : List Equation) (at : ℕ) → at < length rows → (Equation → Q) → Q
 with_row [] at within f = absurd (omega arith)
 with_row (row ∷ rows) at within f = f row
+
+pub err_weaker : {A E : Type 0} {P Q : E → Type 0} (r : Result A E) → ((x : E) → P x → Q x) → IfErr r P → IfErr r Q
+err_weaker (Ok x) f h = h
+err_weaker (Err e) f h = f e h

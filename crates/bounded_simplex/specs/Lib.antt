@@ -1,6 +1,7 @@
 pub mod Answer
 pub mod BoundPlaces
 pub mod Broken
+pub mod Combination
 pub mod Event
 pub mod InForce
 pub mod Pivot

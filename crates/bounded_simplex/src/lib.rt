@@ -4,6 +4,7 @@
 mod bounds;
 mod broken;
 mod check;
+mod combination;
 mod entering;
 mod excess;
 mod laws;

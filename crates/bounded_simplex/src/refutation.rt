@@ -1,7 +1,8 @@
 ghost use Rattle.std.specs.Prelude.{◌≡◌, ◌≢◌, ℕ, ◌+◌, ◌<◌, ℤ, pos, ◌+ℤ◌, ◌<ℤ◌, ◌≤ℤ◌, not, None, [], ◌∷◌, ◌↔◌, length, All, IfOk, IfErr, IfSome, IfNone, IsSome};
 ghost use Rattle.wx_num.specs.Excess.{Overflows};
 ghost use Rattle.mix_system.specs.System.{Exists};
-ghost use Rattle.mix_system.specs.FarkasSum.{FarkasRefutes, bound_weight};
+ghost use Rattle.mix_system.specs.FarkasSum.{FarkasRefutes, leaf_steps};
+ghost use Rattle.bounded_simplex.specs.Combination.{Fits};
 ghost use Rattle.tableau_rows.specs.Equation.{total};
 ghost use Rattle.bounded_simplex.specs.InForce.{in_force, Contradict};
 ghost use Rattle.bounded_simplex.specs.Terms.{times_in_column};
@@ -9,6 +10,7 @@ ghost use Rattle.tableau_rows.specs.Turning.{turned_number};
 ghost use Rattle.bounded_simplex.specs.Refutation.{box_of, columns_of, bound_on, hindering, IsHindered, IsPartOf, SaysInForce};
 
 use crate::Bounds;
+use crate::combination::Combination;
 use mix_system::{Farkas, FarkasPart, FarkasParts, Lit, Side, Term};
 use std::alloc::Global;
 use tableau_rows::{Entry, Equation};
@@ -35,28 +37,30 @@ pub fn refute(
         (λ f. FarkasRefutes bounds.now.system.rows (box_of bounds.now) f.parts))) }
     ensures says { IfOk result (λ found. IfOk found (λ farkas. IfSome farkas
         (λ f. All (λ part. SaysInForce bounds.now part.lit) f.parts))) }
+    ensures fit { IfOk result (λ found. IfOk found (λ farkas. IfSome farkas
+        (λ f. All Fits (leaf_steps bounds.now.system.rows f.parts)))) }
     ensures found { (number : ℕ → ℤ)
         → All (IsHindered bounds.now upwards number) equation.now.entries.items
         → turned_number (not upwards) (total number equation.now.entries.items) <ℤ pos 0
         → IfOk result (λ found. IfOk found IsSome) }
     ensures overflows { IfOk result (λ found. IfErr found Overflows) }
 {
-    let mut parts = FarkasParts::new(alloc);
-    let mut constant = 0;
+    let mut combination = Combination::new(alloc, bounds.system().vars())?;
     for entry in &equation.entries {
         let part = match part_of(bounds, *entry, upwards) {
             Ok(Some(part)) => part,
             Ok(None) => return Ok(Ok(None)),
             Err(excess) => return Ok(Err(excess)),
         };
-        constant = match with_bound(constant, part) {
-            Ok(constant) => constant,
+        match combination.add(bounds, part)? {
+            Ok(()) => {}
             Err(excess) => return Ok(Err(excess)),
-        };
-        parts.push(part)?;
+        }
     }
-    if constant < 0 {
-        return Ok(Ok(Some(Farkas { parts })));
+    if combination.constant < 0 {
+        return Ok(Ok(Some(Farkas {
+            parts: combination.parts,
+        })));
     }
     Ok(Ok(None))
 }
@@ -176,21 +180,6 @@ fn part_at(bounds: &Bounds<'_>, term: Term, side: Side, by: i128) -> Option<Fark
             by,
         }),
         None => None,
-    }
-}
-
-// The constant with the part's bound.
-fn with_bound(constant: i128, part: FarkasPart) -> Result<i128, Excess>
-    ensures value { IfOk result (λ sum. sum ≡ constant +ℤ bound_weight part) }
-    ensures overflows { IfErr result Overflows }
-{
-    let product = match Num::mul(part.by, part.lit.bound) {
-        Ok(product) => product,
-        Err(excess) => return Err(excess),
-    };
-    match part.lit.side {
-        Side::Le => Num::add(constant, product),
-        Side::Ge => Num::sub(constant, product),
     }
 }
 
