@@ -1,6 +1,6 @@
 use crate::{ReadFault, read};
 use ll_token::FaultKind;
-use ll_tree::{Func, print};
+use ll_tree::print;
 use std::alloc::Global;
 use std::fmt::Write;
 use std::test::Fail;
@@ -14,35 +14,49 @@ fn word(kind: FaultKind) -> &'static str {
     }
 }
 
-// What is answered, with the line and the token of a fault.
-fn told(alloc: Global, answer: Result<Func, ReadFault>) -> Result<String, Fail> {
-    let mut told = String::new(alloc);
-    let (kind, line, text) = match answer {
-        Ok(_) => ("read", 0, Name::new(alloc, b"")?),
-        Err(ReadFault::NoFunction) => ("NoFunction", 0, Name::new(alloc, b"")?),
-        Err(ReadFault::TwoFunctions) => ("TwoFunctions", 0, Name::new(alloc, b"")?),
-        Err(ReadFault::NotClosed) => ("NotClosed", 0, Name::new(alloc, b"")?),
-        Err(ReadFault::Token(fault)) => (word(fault.kind), fault.line, Name::new(alloc, b"")?),
-        Err(ReadFault::NotInProfile { line, text }) => ("NotInProfile", line, text),
-        Err(ReadFault::BadWidth { line, text }) => ("BadWidth", line, text),
-        Err(ReadFault::BadLiteral { line, text }) => ("BadLiteral", line, text),
-        Err(ReadFault::NoLabel { line, text }) => ("NoLabel", line, text),
-        Err(ReadFault::Unexpected { line, text }) => ("Unexpected", line, text),
-        Err(ReadFault::NoMemory) => ("NoMemory", 0, Name::new(alloc, b"")?),
-    };
-    write!(told, "{kind} {line} {}", std::str::from_utf8(text.bytes())?)?;
-    Ok(told)
+// The kind of a fault, and its line.
+fn kind_of(fault: &ReadFault) -> (&'static str, u32) {
+    match fault {
+        ReadFault::NoFunction => ("NoFunction", 0),
+        ReadFault::TwoFunctions => ("TwoFunctions", 0),
+        ReadFault::NotClosed => ("NotClosed", 0),
+        ReadFault::Token(fault) => (word(fault.kind), fault.line),
+        ReadFault::NotInProfile { line, .. } => ("NotInProfile", *line),
+        ReadFault::BadWidth { line, .. } => ("BadWidth", *line),
+        ReadFault::BadLiteral { line, .. } => ("BadLiteral", *line),
+        ReadFault::NoLabel { line, .. } => ("NoLabel", *line),
+        ReadFault::Unexpected { line, .. } => ("Unexpected", *line),
+        ReadFault::NoMemory => ("NoMemory", 0),
+    }
 }
 
-// What is answered for a file and a name.
-fn answered(alloc: Global, file: &[u8], name: &str) -> Result<String, Fail> {
-    if file.len() > 5000 {
-        return Ok(String::new(alloc));
+// The token of a fault.
+fn text_of(fault: &ReadFault) -> &[u8] {
+    match fault {
+        ReadFault::NotInProfile { text, .. }
+        | ReadFault::BadWidth { text, .. }
+        | ReadFault::BadLiteral { text, .. }
+        | ReadFault::NoLabel { text, .. }
+        | ReadFault::Unexpected { text, .. } => text.bytes(),
+        _ => &[],
     }
-    told(
-        alloc,
-        read(alloc, file, &Name::new(alloc, name.as_bytes())?),
-    )
+}
+
+// What is answered for a file and a name, with the line and the token of a fault.
+fn answered(alloc: Global, file: &[u8], name: &str) -> Result<String, Fail> {
+    let mut told = String::new(alloc);
+    if file.len() > 5000 {
+        return Ok(told);
+    }
+    match read(alloc, file, &Name::new(alloc, name.as_bytes())?) {
+        Ok(_) => write!(told, "read 0 ")?,
+        Err(fault) => {
+            let (kind, line) = kind_of(&fault);
+            let text = std::str::from_utf8(text_of(&fault))?;
+            write!(told, "{kind} {line} {text}")?;
+        }
+    }
+    Ok(told)
 }
 
 // A name, a file and what is answered. `~` stands for LF, `^` for CR and `&` for tab.
