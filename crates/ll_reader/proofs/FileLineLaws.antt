@@ -4,69 +4,69 @@ use Rattle.std.specs.List.{prefix_len}
 use Rattle.std.proofs.lemmas.Bool.{eqb-true}
 use Rattle.std.proofs.lemmas.List.{drop-drop, length-drop, drop_all, length-take-le}
 use Rattle.ll_reader.specs.declared.lines.LineKind.{LineKind}
-use Rattle.ll_reader.specs.FileLines.{in_front, lines, place, is_inside, line_len, is_of, count_before, IsAt, StandBefore}
+use Rattle.ll_reader.specs.FileLines.{onto_first, lines, line_start, is_inside, first_len, is_of, count_before, IsAt, StandBefore}
 
 -- ---- the first line
 
 -- its length by the count of the bytes before the first LF
-len_before_end : (bytes : List ℕ) → prefix_len is_inside bytes < length bytes → prefix_len is_inside bytes + 1 ≡ line_len bytes
-unfolding line_len
+len_before_end : (bytes : List ℕ) → prefix_len is_inside bytes < length bytes → prefix_len is_inside bytes + 1 ≡ first_len bytes
+unfolding first_len
 len_before_end [] some = absurd (omega arith)
 len_before_end (b ∷ rest) some = go (eqb b 10) (len_before_end rest) some
   where
-    go : (t : Bool) → (prefix_len is_inside rest < length rest → prefix_len is_inside rest + 1 ≡ line_len rest) → cond (not t) (1 + prefix_len is_inside rest) 0 < suc (length rest)
-        → cond (not t) (1 + prefix_len is_inside rest) 0 + 1 ≡ cond t 1 (suc (line_len rest))
+    go : (t : Bool) → (prefix_len is_inside rest < length rest → prefix_len is_inside rest + 1 ≡ first_len rest) → cond (not t) (1 + prefix_len is_inside rest) 0 < suc (length rest)
+        → cond (not t) (1 + prefix_len is_inside rest) 0 + 1 ≡ cond t 1 (suc (first_len rest))
     go true ih fits = refl
     go false ih fits = let e = ih (omega arith) in omega (arith, e)
 
-len_to_end : (bytes : List ℕ) → length bytes ≤ prefix_len is_inside bytes → length bytes ≡ line_len bytes
-unfolding line_len
+len_to_end : (bytes : List ℕ) → length bytes ≤ prefix_len is_inside bytes → length bytes ≡ first_len bytes
+unfolding first_len
 len_to_end [] all = refl
 len_to_end (b ∷ rest) all = go (eqb b 10) (len_to_end rest) all
   where
-    go : (t : Bool) → (length rest ≤ prefix_len is_inside rest → length rest ≡ line_len rest) → suc (length rest) ≤ cond (not t) (1 + prefix_len is_inside rest) 0
-        → suc (length rest) ≡ cond t 1 (suc (line_len rest))
+    go : (t : Bool) → (length rest ≤ prefix_len is_inside rest → length rest ≡ first_len rest) → suc (length rest) ≤ cond (not t) (1 + prefix_len is_inside rest) 0
+        → suc (length rest) ≡ cond t 1 (suc (first_len rest))
     go true ih fits = absurd (omega arith)
     go false ih fits = ap suc (ih (omega arith))
 
 module _ (bytes : List ℕ) (inside : ℕ) (inside_is : inside ≡ prefix_len is_inside bytes) where
-  pub len_with_end : inside < length bytes → inside + 1 ≡ line_len bytes
+  pub len_with_end : inside < length bytes → inside + 1 ≡ first_len bytes
   len_with_end fits = rw inside_is (len_before_end bytes (rw inside_is at fits))
 
-  pub len_without_end : length bytes ≤ inside → length bytes ≡ line_len bytes
+  pub len_without_end : length bytes ≤ inside → length bytes ≡ first_len bytes
   len_without_end all = len_to_end bytes (rw inside_is at all)
 
-pub len_within : (bytes : List ℕ) → line_len bytes ≤ length bytes
-unfolding line_len
+pub len_within : (bytes : List ℕ) → first_len bytes ≤ length bytes
+unfolding first_len
 len_within [] = omega arith
 len_within (b ∷ rest) = go (eqb b 10) (len_within rest)
   where
-    go : (t : Bool) → line_len rest ≤ length rest → cond t 1 (suc (line_len rest)) ≤ suc (length rest)
+    go : (t : Bool) → first_len rest ≤ length rest → cond t 1 (suc (first_len rest)) ≤ suc (length rest)
     go true ih = omega arith
     go false ih = omega arith
 
-pub len_some : (bytes : List ℕ) → 0 < length bytes → 0 < line_len bytes
-unfolding line_len
+pub len_some : (bytes : List ℕ) → 0 < length bytes → 0 < first_len bytes
+unfolding first_len
 len_some [] some = absurd (omega arith)
 len_some (b ∷ rest) some = go (eqb b 10)
   where
-    go : (t : Bool) → 0 < cond t 1 (suc (line_len rest))
+    go : (t : Bool) → 0 < cond t 1 (suc (first_len rest))
     go true = omega arith
     go false = omega arith
 
 abbrev Begins : List ℕ → Type 0
-Begins bytes = lines bytes ≡ take (line_len bytes) bytes ∷ lines (drop (line_len bytes) bytes)
+Begins bytes = lines bytes ≡ take (first_len bytes) bytes ∷ lines (drop (first_len bytes) bytes)
 
 -- a line of one byte, and one with a byte more in front
 last_line : (b : ℕ) → (t : Bool) → eqb b 10 ≡ t → Begins (b ∷ [])
-unfolding lines line_len
+unfolding lines first_len
 last_line b true e = rw e (rw (eqb-true b 10 e) refl)
 last_line b false e = rw e refl
 
 longer_line : (b c : ℕ) (rest : List ℕ) → Begins (c ∷ rest) → (t : Bool) → eqb b 10 ≡ t → Begins (b ∷ c ∷ rest)
-unfolding lines line_len
+unfolding lines first_len
 longer_line b c rest ih true e = rw e (rw (eqb-true b 10 e) refl)
-longer_line b c rest ih false e = rw e (ap (in_front b) ih)
+longer_line b c rest ih false e = rw e (ap (onto_first b) ih)
 
 -- the first line and those behind it
 pub lines_begin : (bytes : List ℕ) → 0 < length bytes → Begins bytes
@@ -76,48 +76,48 @@ lines_begin (b ∷ c ∷ rest) some = longer_line b c rest (lines_begin (c ∷ r
 
 -- ---- where lines begin
 
-place_none : (n : ℕ) → place [] n ≡ 0
-unfolding place
+place_none : (n : ℕ) → line_start [] n ≡ 0
+unfolding line_start
 place_none zero = refl
 place_none (suc n) = refl
 
-place_more : (ls : List (List ℕ)) (n c : ℕ) → place ls (n + c) ≡ place ls n + place (drop n ls) c
-unfolding place
-place_more ls zero c = let e : zero + c ≡ c = omega arith in rw e (let g : place ls c ≡ 0 + place ls c = omega arith in g)
+place_more : (ls : List (List ℕ)) (n c : ℕ) → line_start ls (n + c) ≡ line_start ls n + line_start (drop n ls) c
+unfolding line_start
+place_more ls zero c = let e : zero + c ≡ c = omega arith in rw e (let g : line_start ls c ≡ 0 + line_start ls c = omega arith in g)
 place_more [] (suc n) c = rw (place_none (suc n + c), place_none c) refl
 place_more (l ∷ ls) (suc n) c =
     let e : suc n + c ≡ suc (n + c) = omega arith in
     let ih = place_more ls n c in
     rw e (omega (arith, ih))
 
-pub place_grows : (ls : List (List ℕ)) (n m : ℕ) → n ≤ m → place ls n ≤ place ls m
+pub place_grows : (ls : List (List ℕ)) (n m : ℕ) → n ≤ m → line_start ls n ≤ line_start ls m
 place_grows ls n m le =
     let e : n + (m - n) ≡ m = omega arith in
-    let more : place ls m ≡ place ls n + place (drop n ls) (m - n) = ap (place ls) (sym e) ∙ place_more ls n (m - n) in
+    let more : line_start ls m ≡ line_start ls n + line_start (drop n ls) (m - n) = ap (line_start ls) (sym e) ∙ place_more ls n (m - n) in
     omega (arith, more)
 
 pub at_start : (text : List ℕ) → IsAt text 0 0
-unfolding place
+unfolding line_start
 at_start text = record { place_is = refl; behind = refl; within = omega arith; few = omega arith }
 
 -- lines behind lines
 pub at_more : (text : List ℕ) (n at c len : ℕ) → IsAt text n at → IsAt (drop at text) c len → IsAt text (n + c) (at + len)
 at_more text n at c len first second = record {
-  place_is = ap (λ (x : ℕ). x + len) first.place_is ∙ ap (λ (x : ℕ). place (lines text) n + x) (second.place_is ∙ ap (λ (ls : List (List ℕ)). place ls c) first.behind) ∙ sym (place_more (lines text) n c);
+  place_is = ap (λ (x : ℕ). x + len) first.place_is ∙ ap (λ (x : ℕ). line_start (lines text) n + x) (second.place_is ∙ ap (λ (ls : List (List ℕ)). line_start ls c) first.behind) ∙ sym (place_more (lines text) n c);
   behind = ap lines (sym (drop-drop len at text)) ∙ second.behind ∙ ap (drop c) first.behind ∙ drop-drop c n (lines text);
   within = let w = second.within in let v = first.within in let l = length-drop at text in omega arith;
   few = let w = second.few in let v = first.few in omega arith;
 }
 
 -- the first line
-pub at_first : (bytes : List ℕ) → 0 < length bytes → IsAt bytes 1 (line_len bytes)
-unfolding place
+pub at_first : (bytes : List ℕ) → 0 < length bytes → IsAt bytes 1 (first_len bytes)
+unfolding line_start
 at_first bytes some =
     let begins = lines_begin bytes some in
     let within = len_within bytes in
     let more = len_some bytes some in
     record {
-      place_is = rw begins (omega (arith, length-take-le (line_len bytes) bytes within));
+      place_is = rw begins (omega (arith, length-take-le (first_len bytes) bytes within));
       behind = rw begins refl;
       within = within;
       few = omega arith;
@@ -133,7 +133,7 @@ pub none_passed : (kind : LineKind) (bytes : List ℕ) → ArePassed kind bytes 
 none_passed kind bytes = record { ends = at_start bytes; goes_on = omega arith }
 
 module _ (kind : LineKind) (bytes : List ℕ) (n len : ℕ) (passed : ArePassed kind bytes n len) (rest line : List ℕ) (k : ℕ)
-    (rest_is : rest ≡ drop len bytes) (k_is : k ≡ line_len rest) (line_is : line ≡ take k rest) (more : len < length bytes) where
+    (rest_is : rest ≡ drop len bytes) (k_is : k ≡ first_len rest) (line_is : line ≡ take k rest) (more : len < length bytes) where
   some_left : 0 < length rest
   some_left = omega (arith, ap length rest_is, length-drop len bytes)
 

@@ -10,9 +10,9 @@ use Rattle.ll_reader.specs.declared.lines.LineKind.TheVariants as kinds
 use Rattle.ll_reader.specs.declared.lines.Passed.{Passed}
 use Rattle.ll_reader.specs.declared.finder.Section.{Section}
 use Rattle.ll_reader.specs.declared.finder.Found.TheVariants as found_
-use Rattle.ll_reader.specs.FileLines.{lines, line_at, line_len, is_define, is_closing, is_of, has_prefix, count_before, IsAt, StandBefore}
+use Rattle.ll_reader.specs.FileLines.{lines, nth_line, first_len, is_define, is_closing, is_of, has_prefix, count_before, IsAt, StandBefore}
 use Rattle.ll_reader.specs.DefineLine.{IsNamed}
-use Rattle.ll_reader.specs.Functions.{BeginsFunction, HasName, NoneCloses, Finds, IsSection, IsNextSection, IsNext, IsSoFar, IsScanned, IsWithin}
+use Rattle.ll_reader.specs.Functions.{BeginsFunction, HasName, NoneCloses, Finds, IsSection, IsNextSection, IsNextFunction, IsSoFar, IsScanned, LiesInFile}
 use Rattle.ll_reader.proofs.FileLineLaws.{lines_begin, at_start, at_more, at_first, place_grows}
 
 -- ---- lines by number
@@ -43,16 +43,16 @@ none_left text n at is all =
 some_left : (text : List ℕ) (n at : ℕ) → IsAt text n at → at < length text → n < length (lines text)
 some_left text n at is more =
     let some : 0 < length (drop at text) = omega (arith, length-drop at text) in
-    let l : length (lines text) - n ≡ suc (length (lines (drop (line_len (drop at text)) (drop at text)))) =
+    let l : length (lines text) - n ≡ suc (length (lines (drop (first_len (drop at text)) (drop at text)))) =
     sym (length-drop n (lines text)) ∙ ap length (sym is.behind) ∙ ap length (lines_begin (drop at text) some) in
     omega (arith, l)
 
 -- the line at a place
-pub line_is : (text : List ℕ) (n at : ℕ) → IsAt text n at → at < length text → line_at (lines text) n ≡ take (line_len (drop at text)) (drop at text)
+pub line_is : (text : List ℕ) (n at : ℕ) → IsAt text n at → at < length text → nth_line (lines text) n ≡ take (first_len (drop at text)) (drop at text)
 line_is text n at is more =
     let some : 0 < length (drop at text) = omega (arith, length-drop at text) in
     let e : n + 0 ≡ n = omega arith in
-    ap (λ (x : ℕ). line_at (lines text) x) (sym e) ∙ sym (get_or-drop n (lines text) 0 []) ∙ ap (λ (ls : List (List ℕ)). line_at ls 0) (sym is.behind ∙ lines_begin (drop at text) some)
+    ap (λ (x : ℕ). nth_line (lines text) x) (sym e) ∙ sym (get_or-drop n (lines text) 0 []) ∙ ap (λ (ls : List (List ℕ)). nth_line ls 0) (sym is.behind ∙ lines_begin (drop at text) some)
 
 -- ---- the lines before the first of a kind
 
@@ -63,25 +63,25 @@ module _ (kind : LineKind) (text : List ℕ) (n at : ℕ) (is_at : IsAt text n a
   counted : passed.lines ≡ count_before kind (drop n (lines text))
   counted = before.count ∙ ap (count_before kind) is_at.behind
 
-  shifted : (j : ℕ) → get_or (drop n (lines text)) j [] ≡ line_at (lines text) (n + j)
+  shifted : (j : ℕ) → get_or (drop n (lines text)) j [] ≡ nth_line (lines text) (n + j)
   shifted j = get_or-drop n (lines text) j []
 
-  pub none_between : (k : ℕ) → n ≤ k → k < n + passed.lines → is_of kind (line_at (lines text) k) ≡ false
+  pub none_between : (k : ℕ) → n ≤ k → k < n + passed.lines → is_of kind (nth_line (lines text) k) ≡ false
   unfolding count_before
   none_between k from to =
       let c = counted in
       let fits : k - n < count_before kind (drop n (lines text)) = omega (arith, c) in
       let e : n + (k - n) ≡ k = omega arith in
       let passes = prefix_len_passes (λ line. not (is_of kind line)) (drop n (lines text)) (k - n) [] fits in
-      not-true _ (subst (λ (line : List ℕ). not (is_of kind line) ≡ true) (shifted (k - n) ∙ ap (line_at (lines text)) e) passes)
+      not-true _ (subst (λ (line : List ℕ). not (is_of kind line) ≡ true) (shifted (k - n) ∙ ap (nth_line (lines text)) e) passes)
 
-  pub one_there : n + passed.lines < length (lines text) → is_of kind (line_at (lines text) (n + passed.lines)) ≡ true
+  pub one_there : n + passed.lines < length (lines text) → is_of kind (nth_line (lines text) (n + passed.lines)) ≡ true
   unfolding count_before
   one_there more =
       let c = counted in
       let l = length-drop n (lines text) in
       let stops = prefix_len_stops (λ line. not (is_of kind line)) (drop n (lines text)) [] (omega (arith, c, l)) in
-      let here : get_or (drop n (lines text)) (prefix_len (λ line. not (is_of kind line)) (drop n (lines text))) [] ≡ line_at (lines text) (n + passed.lines) =
+      let here : get_or (drop n (lines text)) (prefix_len (λ line. not (is_of kind line)) (drop n (lines text))) [] ≡ nth_line (lines text) (n + passed.lines) =
       ap (λ (j : ℕ). get_or (drop n (lines text)) j []) (sym c) ∙ shifted passed.lines in
       not_from_false' _ (subst (λ (line : List ℕ). not (is_of kind line) ≡ false) here stops)
     where
@@ -96,14 +96,14 @@ same_section : (line closing_line : ℕ) {a b c d : ℕ} → a ≡ b → c ≡ d
 same_section line closing_line p q = rw (p, q) refl
 
 module _ (text : List ℕ) (n at : ℕ) (is_at : IsAt text n at) (outside : Passed) (to_define : StandBefore kinds.Define (drop at text) outside) where
-  pub no_function : length (drop (at + outside.len) text) ≡ 0 → IsNext text n None
+  pub no_function : length (drop (at + outside.len) text) ≡ 0 → IsNextFunction text n None
   no_function nothing =
       let next = at_next kinds.Define text n at is_at outside to_define in
       let l = length-drop (at + outside.len) text in
       let all = none_left text (n + outside.lines) (at + outside.len) next (omega (arith, l)) in
       λ k from to. none_between kinds.Define text n at is_at outside to_define k from (omega arith)
 
-  module _ (from behind : List ℕ) (first : ℕ) (from_is : from ≡ drop (at + outside.len) text) (some : 0 < length from) (first_is : first ≡ line_len from) (behind_is : behind ≡ drop first from)
+  module _ (from behind : List ℕ) (first : ℕ) (from_is : from ≡ drop (at + outside.len) text) (some : 0 < length from) (first_is : first ≡ first_len from) (behind_is : behind ≡ drop first from)
       (inside : Passed) (to_closing : StandBefore kinds.Closing behind inside) (section : Section)
       (section_is : section ≡ record { start = at + outside.len; end = at + outside.len + first + inside.len; line = n + outside.lines + 1; closing_line = n + outside.lines + 1 + inside.lines + 1 }) where
     abbrev start : ℕ
@@ -123,7 +123,7 @@ module _ (text : List ℕ) (n at : ℕ) (is_at : IsAt text n at) (outside : Pass
 
     behind_first : IsAt text (number + 1) (start + first)
     behind_first = at_more text number start 1 first starts
-        (subst (λ (x : ℕ). IsAt (drop start text) 1 x) (ap line_len (sym from_is) ∙ sym first_is) (at_first (drop start text) (omega (arith, some, ap length from_is))))
+        (subst (λ (x : ℕ). IsAt (drop start text) 1 x) (ap first_len (sym from_is) ∙ sym first_is) (at_first (drop start text) (omega (arith, some, ap length from_is))))
 
     rest_is : behind ≡ drop (start + first) text
     rest_is = behind_is ∙ ap (drop first) from_is ∙ drop-drop first start text
@@ -137,7 +137,7 @@ module _ (text : List ℕ) (n at : ℕ) (is_at : IsAt text n at) (outside : Pass
     ends : IsAt text closing (start + first + inside.len)
     ends = at_next kinds.Closing text (number + 1) (start + first) behind_first inside to_end
 
-    pub next_is : IsNext text n (Some section)
+    pub next_is : IsNextFunction text n (Some section)
     next_is = record {
       n = number;
       m = closing;
@@ -162,7 +162,7 @@ module _ (text name : List ℕ) (before at : ℕ) (found : Option Section) (scan
   abbrev ls : List (List ℕ)
   ls = lines text
 
-  begins_here : (n : ℕ) → before ≤ n → n < length ls → is_define (line_at ls n) ≡ true → ((k : ℕ) → before ≤ k → k < n → is_define (line_at ls k) ≡ false) → BeginsFunction ls n
+  begins_here : (n : ℕ) → before ≤ n → n < length ls → is_define (nth_line ls n) ≡ true → ((k : ℕ) → before ≤ k → k < n → is_define (nth_line ls k) ≡ false) → BeginsFunction ls n
   begins_here n from there defines skipped = record {
     there = there;
     defines = defines;
@@ -171,7 +171,7 @@ module _ (text name : List ℕ) (before at : ℕ) (found : Option Section) (scan
       | inl early ↦
           let (c, behind, up_to, closing) = scanned.closed d early is_d in
           elim (cases_order c n) [
-            | inl same ↦ absurd (false≢true (sym (apart_lines (line_at ls n) defines) ∙ subst (λ (x : ℕ). is_closing (line_at ls x) ≡ true) same (closing (omega (arith, same)))))
+            | inl same ↦ absurd (false≢true (sym (apart_lines (nth_line ls n) defines) ∙ subst (λ (x : ℕ). is_closing (nth_line ls x) ≡ true) same (closing (omega (arith, same)))))
             | inr (inl less) ↦ (c, behind, less, closing (omega arith))
             | inr (inr greater) ↦ absurd (omega arith)
           ]
@@ -179,7 +179,7 @@ module _ (text name : List ℕ) (before at : ℕ) (found : Option Section) (scan
   }
 
   -- a function inside of another one's text begins at no line
-  no_inner : (n m k : ℕ) → is_define (line_at ls n) ≡ true → NoneCloses ls n m → n < k → k < m → BeginsFunction ls k → ⊥
+  no_inner : (n m k : ℕ) → is_define (nth_line ls n) ≡ true → NoneCloses ls n m → n < k → k < m → BeginsFunction ls k → ⊥
   no_inner n m k defines none from to begins =
       let (c, behind, less, closing) = begins.outside n from defines in
       false≢true (sym (none c behind (omega arith)) ∙ closing)
@@ -196,7 +196,7 @@ module _ (text name : List ℕ) (before at : ℕ) (found : Option Section) (scan
       | inr (inr greater) ↦ absurd (no_inner next.n next.m k next.defines next.is_section.none_closes greater to begins_k)
     ]
 
-    closed_next : (d : ℕ) → d < next.m → is_define (line_at ls d) ≡ true → (c : ℕ) × (d < c) × (c ≤ next.m) × (c < length ls → is_closing (line_at ls c) ≡ true)
+    closed_next : (d : ℕ) → d < next.m → is_define (nth_line ls d) ≡ true → (c : ℕ) × (d < c) × (c ≤ next.m) × (c < length ls → is_closing (nth_line ls c) ≡ true)
     closed_next d early is_d = elim (cases_lt d before) [
       | inl sooner ↦ let (c, behind, up_to, closing) = scanned.closed d sooner is_d in let later = next.later in let past = next.is_section.behind in (c, behind, omega arith, closing)
       | inr late ↦ (next.m, early, omega arith, next.is_section.closes)
@@ -208,7 +208,7 @@ module _ (text name : List ℕ) (before at : ℕ) (found : Option Section) (scan
       | inr all ↦ let none = none_left text next.n section.start next.is_section.begins all in let there = next.there in absurd (omega arith)
     ]
 
-    pub line_there : line_at ls next.n ≡ take (line_len (drop section.start text)) (drop section.start text)
+    pub line_there : nth_line ls next.n ≡ take (first_len (drop section.start text)) (drop section.start text)
     line_there = line_is text next.n section.start next.is_section.begins within
 
     pub number_is : section.closing_line - 1 ≡ next.m
@@ -221,17 +221,17 @@ module _ (text name : List ℕ) (before at : ℕ) (found : Option Section) (scan
     scanned_more more so_far = rw number_is (record { is_at = next.is_section.ends; closed = closed_next; so_far = so_far })
 
     -- whether the define line has the name
-    module _ (is : Bool) (decides : IsTrue is ↔ IsNamed (take (line_len (drop section.start text)) (drop section.start text)) name) where
+    module _ (is : Bool) (decides : IsTrue is ↔ IsNamed (take (first_len (drop section.start text)) (drop section.start text)) name) where
       has : is ≡ true → HasName text name next.n
       has it_is = (begins, subst (λ (line : List ℕ). IsNamed line name) (sym line_there) (decides.0 it_is))
 
-      has_not : is ≡ false → IsNamed (line_at ls next.n) name → ⊥
+      has_not : is ≡ false → IsNamed (nth_line ls next.n) name → ⊥
       has_not is_not named = false≢true (sym is_not ∙ decides.1 (subst (λ (line : List ℕ). IsNamed line name) line_there named))
 
       past : is ≡ false → (k : ℕ) → k < next.m → HasName text name k → k < before
       past is_not k early (begins_k, named) = elim (cases_lt k before) [
         | inl sooner ↦ sooner
-        | inr late ↦ absurd (has_not is_not (subst (λ (x : ℕ). IsNamed (line_at ls x) name) (only_here k late early begins_k) named))
+        | inr late ↦ absurd (has_not is_not (subst (λ (x : ℕ). IsNamed (nth_line ls x) name) (only_here k late early begins_k) named))
       ]
 
       keeps : is ≡ false → (f : Option Section) → IsSoFar text name before f → IsSoFar text name next.m f
@@ -265,13 +265,13 @@ module _ (text name : List ℕ) (before at : ℕ) (found : Option Section) (scan
           go (Some s) some (n, m, less, has_n, only, is_section) = let later = next.later in (n, next.n, omega arith, has_n, has it_is)
 
   -- all lines were looked at
-  past_all : IsNext text before None → (k : ℕ) → HasName text name k → k < before
+  past_all : IsNextFunction text before None → (k : ℕ) → HasName text name k → k < before
   past_all none k (begins_k, named) = elim (cases_lt k before) [
     | inl sooner ↦ sooner
     | inr late ↦ absurd (false≢true (sym (none k late begins_k.there) ∙ begins_k.defines))
   ]
 
-  pub so_far_all : IsNext text before None → IsSoFar text name (length ls) found
+  pub so_far_all : IsNextFunction text before None → IsSoFar text name (length ls) found
   so_far_all none = go found scanned.so_far
     where
       go : (f : Option Section) → IsSoFar text name before f → IsSoFar text name (length ls) f
@@ -280,10 +280,10 @@ module _ (text name : List ℕ) (before at : ℕ) (found : Option Section) (scan
 
 -- ---- what was found
 
-pub nowhere : (text name : List ℕ) → IsSoFar text name (length (lines text)) None → Finds text name found_.Nowhere × IsWithin text found_.Nowhere
+pub nowhere : (text name : List ℕ) → IsSoFar text name (length (lines text)) None → Finds text name found_.Nowhere × LiesInFile text found_.Nowhere
 nowhere text name nothing = (λ n has. nothing n has.0.there has, tt)
 
-within_text : (text : List ℕ) (n m : ℕ) (section : Section) → IsSection text n m section → IsWithin text (found_.Closed section)
+within_text : (text : List ℕ) (n m : ℕ) (section : Section) → IsSection text n m section → LiesInFile text (found_.Closed section)
 within_text text n m section is =
     let starts = is.begins.place_is in
     let ends = is.ends.place_is in
@@ -295,7 +295,7 @@ within_text text n m section is =
     (omega arith, omega arith, omega arith)
 
 pub closed : (text name : List ℕ) (section : Section) → IsSoFar text name (length (lines text)) (Some section) → section.end < length text
-    → Finds text name (found_.Closed section) × IsWithin text (found_.Closed section)
+    → Finds text name (found_.Closed section) × LiesInFile text (found_.Closed section)
 closed text name section (n, m, less, has, only, is) more =
     let there = some_left text m section.end is.ends more in (
       (n, m, (has, λ other h. only other h.0.there h), record { behind = is.behind; there = there; closing = is.closes there; first = is.none_closes }, is.section_is),
@@ -303,7 +303,7 @@ closed text name section (n, m, less, has, only, is) more =
     )
 
 pub unclosed : (text name : List ℕ) (section : Section) → IsSoFar text name (length (lines text)) (Some section) → length text ≤ section.end
-    → Finds text name found_.Unclosed × IsWithin text found_.Unclosed
+    → Finds text name found_.Unclosed × LiesInFile text found_.Unclosed
 unclosed text name section (n, m, less, has, only, is) all =
     let past = none_left text m section.end is.ends all in
     ((n, (has, λ other h. only other h.0.there h), λ c after before. is.none_closes c after (omega arith)), tt)

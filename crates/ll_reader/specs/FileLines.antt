@@ -8,24 +8,24 @@ use Rattle.ll_reader.specs.declared.lines.LineKind.TheVariants as kinds
 use Rattle.ll_reader.specs.declared.lines.Passed.{Passed}
 
 -- these lines with a byte in front of the first
-abbrev pub in_front : ℕ → List (List ℕ) → List (List ℕ)
-in_front byte [] = (byte ∷ []) ∷ []
-in_front byte (line ∷ others) = (byte ∷ line) ∷ others
+abbrev pub onto_first : ℕ → List (List ℕ) → List (List ℕ)
+onto_first byte [] = (byte ∷ []) ∷ []
+onto_first byte (line ∷ others) = (byte ∷ line) ∷ others
 
 -- The lines of a text, each with the LF (10) that ends it; the last may have none.
 unfoldable pub lines : List ℕ → List (List ℕ)
 lines [] = []
-lines (byte ∷ rest) = if byte == 10 then (10 ∷ []) ∷ lines rest else in_front byte (lines rest)
+lines (byte ∷ rest) = if byte == 10 then (10 ∷ []) ∷ lines rest else onto_first byte (lines rest)
 
 -- line n, counted from 0
-abbrev pub line_at : List (List ℕ) → ℕ → List ℕ
-line_at ls n = get_or ls n []
+abbrev pub nth_line : List (List ℕ) → ℕ → List ℕ
+nth_line ls n = get_or ls n []
 
 -- where line n begins
-unfoldable pub place : List (List ℕ) → ℕ → ℕ
-place ls zero = 0
-place [] (suc n) = 0
-place (line ∷ others) (suc n) = length line + place others n
+unfoldable pub line_start : List (List ℕ) → ℕ → ℕ
+line_start ls zero = 0
+line_start [] (suc n) = 0
+line_start (line ∷ others) (suc n) = length line + line_start others n
 
 -- what these bytes begin with
 unfoldable pub has_prefix : List ℕ → List ℕ → Bool
@@ -50,16 +50,16 @@ abbrev pub is_inside : ℕ → Bool
 is_inside byte = not (byte == 10)
 
 -- how many bytes the first line has
-unfoldable pub line_len : List ℕ → ℕ
-line_len [] = 0
-line_len (byte ∷ rest) = if byte == 10 then 1 else suc (line_len rest)
+unfoldable pub first_len : List ℕ → ℕ
+first_len [] = 0
+first_len (byte ∷ rest) = if byte == 10 then 1 else suc (first_len rest)
 
 abbrev pub first_line : List ℕ → List ℕ
-first_line bytes = take (line_len bytes) bytes
+first_line bytes = take (first_len bytes) bytes
 
 -- Line n of a text begins at this place.
 pub record IsAt (text : List ℕ) (n at : ℕ) : Type 0 where
-  pub place_is : at ≡ place (lines text) n
+  pub place_is : at ≡ line_start (lines text) n
   pub behind : lines (drop at text) ≡ drop n (lines text)
   pub within : at ≤ length text
   pub few : n ≤ at

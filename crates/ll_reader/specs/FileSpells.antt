@@ -16,7 +16,7 @@ use Rattle.ll_reader.specs.declared.finder.Found.{Found}
 use Rattle.ll_grammar.specs.Reading.{Read, Done, Fault, RanOut}
 use Rattle.ll_grammar.specs.Header.{function}
 use Rattle.ll_reader.specs.Functions.{Finds}
-use Rattle.ll_reader.specs.Sentence.{IsSentence, StopsAt, IsUnfinished}
+use Rattle.ll_reader.specs.Sentence.{IsSentence, IsRefused, IsUnfinished}
 
 -- the bytes of a function's text, without the brace that closes it
 abbrev pub section_text : List ℕ → Section → List ℕ
@@ -37,7 +37,7 @@ FileSpells text name func = (section : Section) × (ts : List Tok) × HasTokens 
 abbrev pub Refuses : (text name : List ℕ) → Refusal → (line : ℕ) → (bytes : List ℕ) → Type 0
 Refuses text name r line bytes =
     (section : Section) × (ts : List Tok) × HasTokens text name section ts
-    × (((left : List Tok) × StopsAt ts r left × (line ≡ line_at left) × (bytes ≡ text_at left))
+    × (((left : List Tok) × IsRefused ts r left × (line ≡ line_at left) × (bytes ≡ text_at left))
     ⊎ (IsUnfinished ts × (r ≡ refusal.Unexpected) × (line ≡ section.closing_line) × (bytes ≡ codes "}")))
 
 -- The file spells no function under this name, for this reason.

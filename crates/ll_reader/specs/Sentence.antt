@@ -11,8 +11,8 @@ abbrev pub IsSentence : Func → List Tok → Type 0
 IsSentence func ts = (left : List Tok) × (function ts ≡ Done func left)
 
 -- The grammar can't go on with the first of the tokens left, and can with those before it. This is what is wrong with it.
-abbrev pub StopsAt : List Tok → Refusal → (left : List Tok) → Type 0
-StopsAt ts refusal left = function ts ≡ Fault refusal left
+abbrev pub IsRefused : List Tok → Refusal → (left : List Tok) → Type 0
+IsRefused ts refusal left = function ts ≡ Fault refusal left
 
 -- It can go on with each of them, but no function ends behind the last.
 abbrev pub IsUnfinished : List Tok → Type 0

@@ -3,7 +3,7 @@
 ghost use Rattle.std.specs.Prelude.{◌≡◌, ◌<◌, ◌^◌, ◌↔◌, ℕ, List, IsTrue, IfOk, length, drop};
 ghost use Rattle.ll_reader.specs.FileLines.{IsAt, lines, first_line};
 ghost use Rattle.ll_reader.specs.DefineLine.{IsNamed};
-ghost use Rattle.ll_reader.specs.Functions.{Finds, IsNext, IsSoFar, IsWithin};
+ghost use Rattle.ll_reader.specs.Functions.{Finds, IsNextFunction, IsSoFar, LiesInFile};
 
 use crate::define_line::is_named;
 use crate::lines::{LineKind, line_len, lines_before};
@@ -37,7 +37,7 @@ pub enum Found {
 fn next_section(text: &[u8], at: usize, before: u32) -> Option<Section>
     requires short { length text.now < 2 ^ 31 }
     requires line_end { IsAt text.now before at }
-    ensures { IsNext text.now before result }
+    ensures { IsNextFunction text.now before result }
 {
     let (_, rest) = text.split_at(at);
     let outside = lines_before(LineKind::Define, rest);
@@ -72,7 +72,7 @@ fn has_name(alloc: Global, text: &[u8], start: usize, name: &Name) -> Result<boo
 /// What was found once the whole file was looked at.
 fn outcome(text: &[u8], found: Option<Section>) -> Found
     ensures { (name : List ℕ) → IsSoFar text.now name (length (lines text.now)) found
-        → Finds text.now name result × IsWithin text.now result }
+        → Finds text.now name result × LiesInFile text.now result }
 {
     let Some(section) = found else {
         return Found::Nowhere;
@@ -89,7 +89,7 @@ fn outcome(text: &[u8], found: Option<Section>) -> Found
 pub fn find(alloc: Global, text: &[u8], name: &Name) -> Result<Found, NoMemory>
     requires { length text.now < 2 ^ 31 }
     ensures finds { IfOk result (Finds text.now name.now) }
-    ensures within { IfOk result (IsWithin text.now) }
+    ensures within { IfOk result (LiesInFile text.now) }
 {
     let mut found = None;
     let mut at = 0;

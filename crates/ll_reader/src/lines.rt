@@ -2,7 +2,7 @@
 
 ghost use Rattle.std.specs.Prelude.{◌≡◌, ◌<◌, ◌≤◌, ◌^◌, length};
 ghost use Rattle.std.specs.List.{prefix_len};
-ghost use Rattle.ll_reader.specs.FileLines.{has_prefix, is_define, is_closing, is_inside, is_of, line_len, StandBefore};
+ghost use Rattle.ll_reader.specs.FileLines.{has_prefix, is_define, is_closing, is_inside, is_of, first_len, StandBefore};
 
 /// A line that begins the text of a function, or one that ends it.
 #[derive(Clone, Copy)]
@@ -62,10 +62,10 @@ fn inside_len(bytes: &[u8]) -> usize
 }
 
 /// How many bytes the first line has, its LF included.
-#[tactic(auto, unfolding(crate::specs::FileLines::line_len))]
+#[tactic(auto, unfolding(crate::specs::FileLines::first_len))]
 pub fn line_len(bytes: &[u8]) -> usize
     requires { length bytes.now < 2 ^ 31 }
-    ensures len { result ≡ line_len bytes.now }
+    ensures len { result ≡ first_len bytes.now }
     ensures within { result ≤ length bytes.now }
 {
     let inside = inside_len(bytes);

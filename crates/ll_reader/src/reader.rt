@@ -9,7 +9,7 @@ ghost use Rattle.ll_grammar.specs.Header.{function};
 ghost use Rattle.ll_reader.specs.declared.finder.Found.TheVariants as founds;
 ghost use Rattle.ll_reader.specs.declared.fault.ReadFault.{ReadFault};
 ghost use Rattle.ll_reader.specs.declared.fault.ReadFault.TheVariants as faults;
-ghost use Rattle.ll_reader.specs.Functions.{IsWithin};
+ghost use Rattle.ll_reader.specs.Functions.{LiesInFile};
 ghost use Rattle.ll_reader.specs.FileSpells.{FileSpells, FileStops, IsAnswer, answer_of, FileSays, SectionSays};
 
 use crate::fault::{ReadFault, refused};
@@ -52,7 +52,7 @@ fn read_tokens(
 /// The function that a part of a file spells.
 fn read_section(alloc: Global, text: &[u8], section: Section) -> Result<Func, ReadFault>
     requires short { length text.now < 2 ^ 31 }
-    requires within { IsWithin text.now (founds.Closed section) }
+    requires within { LiesInFile text.now (founds.Closed section) }
     ensures { IsAnswer (SectionSays text.now section) result }
 {
     let body = &text[section.start..section.end];
@@ -66,7 +66,7 @@ fn read_section(alloc: Global, text: &[u8], section: Section) -> Result<Func, Re
 /// What the functions under a name spell.
 fn read_found(alloc: Global, text: &[u8], found: Found) -> Result<Func, ReadFault>
     requires short { length text.now < 2 ^ 31 }
-    requires within { IsWithin text.now found }
+    requires within { LiesInFile text.now found }
     ensures { IsAnswer (FileSays text.now found) result }
 {
     match found {
