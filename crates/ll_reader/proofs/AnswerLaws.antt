@@ -1,5 +1,5 @@
 -- A file has one answer.
-use Rattle.std.proofs.Common.{◌≡◌, ◌⊎◌, ℕ, ◌<◌, List, length, Result, Ok, Err, IfOk, IfErr, refl, sym, ap, subst, ◌∙◌, arith, inl, inr}
+use Rattle.std.proofs.Common.{◌≡◌, ◌⊎◌, ℕ, ◌<◌, List, [], length, Result, Ok, Err, IfOk, IfErr, refl, sym, ap, subst, ◌∙◌, arith, inl, inr}
 use Rattle.std.proofs.lemmas.Bool.{false≢true, cases_order}
 use Rattle.ll_token.specs.declared.token.Token.{Token}
 use Rattle.ll_token.specs.declared.token.TokenFault.{TokenFault}
@@ -11,6 +11,14 @@ use Rattle.ll_grammar.specs.declared.stop.Refusal.TheVariants as refusal
 use Rattle.ll_grammar.specs.Tokens.{Tok, seen, line_at, text_at}
 use Rattle.ll_grammar.specs.Reading.{Read, Done, Fault, RanOut}
 use Rattle.ll_grammar.specs.Header.{function}
+use Rattle.ll_grammar.specs.Spells.{SpellsFunction}
+use Rattle.ll_grammar.specs.Sentences as sentences
+use Rattle.ll_grammar.specs.declared.stop.Stop.{Stop}
+use Rattle.ll_grammar.specs.declared.stop.Stop.TheVariants as stop
+use Rattle.ll_grammar.proofs.HeaderReadLaws.{function_reads}
+use Rattle.ll_grammar.proofs.SentenceLaws.{spelled_by, only_by, stops_by}
+use Rattle.std.proofs.lemmas.List.{append-nil}
+use Rattle.ll_reader.specs.Sentence.{IsRefused, IsUnfinished}
 use Rattle.ll_reader.specs.declared.fault.ReadFault.{ReadFault}
 use Rattle.ll_reader.specs.declared.fault.ReadFault.TheVariants as faults
 use Rattle.ll_reader.specs.declared.finder.Section.{Section}
@@ -87,9 +95,27 @@ one_answer text name a b (f, finds, says) (g, finds_too, says_too) =
 
 -- ---- the same in the words of the language
 
+-- where the tokens stop
+fault_read : (ts : List Tok) (r : Refusal) (left : List Tok) → IsRefused ts r left → function ts ≡ Fault r left
+fault_read ts r left stops = ap function stops.whole ∙ stops.early stops.behind ∙ ap (Fault r) (sym stops.stands)
+
+none_spelled : (ts : List Tok) → function ts ≡ RanOut → (func : Func) → SpellsFunction func ts → ⊥
+none_spelled ts ran func spelled = no_memory (only_by (Err stop.RanOut) [] ts ran func spelled)
+  where
+    no_memory : ◌≡◌ {A = Stop} stop.RanOut stop.NoMemory → ⊥
+    no_memory e = absurd cc
+
+ran_out_read : (ts : List Tok) (read : Read Func) → function ts ≡ read → IsUnfinished ts → read ≡ RanOut
+ran_out_read ts (Done func left) is (no_fault, begins, none) = absurd (none func (spelled_by (Ok func) left ts is))
+ran_out_read ts (Fault r left) is (no_fault, begins, none) =
+    let stops : sentences.StopsAt r ts left = stops_by (Err (stop.Refused r)) left ts is in
+    let within = no_fault [] left r (ap function (append-nil ts) ∙ is) in
+    absurd (omega (arith, ap length stops.stands))
+ran_out_read ts RanOut is unfinished = refl
+
 pub spells_says : (text name : List ℕ) (func : Func) → FileSpells text name func → Says text name (Ok func)
-spells_says text name func (section, ts, (finds, tokens, are, seen_so), (left, reads)) =
-    (found.Closed section, finds, inl (tokens, are, sym (ap (λ (x : List Tok). answer_of section.closing_line (function x)) (sym seen_so) ∙ ap (answer_of section.closing_line) reads)))
+spells_says text name func (section, ts, (finds, tokens, are, seen_so), spelled) =
+    (found.Closed section, finds, inl (tokens, are, sym (ap (λ (x : List Tok). answer_of section.closing_line (function x)) (sym seen_so) ∙ ap (answer_of section.closing_line) (function_reads func ts spelled))))
 
 refuses_says : (text name : List ℕ) (r : Refusal) (line : ℕ) (bytes : List ℕ) → Refuses text name r line bytes → Says text name (Err (fault_of r line bytes))
 refuses_says text name r line bytes (section, ts, (finds, tokens, are, seen_so), inl (left, stops, line_is, bytes_are)) = (
@@ -98,7 +124,7 @@ refuses_says text name r line bytes (section, ts, (finds, tokens, are, seen_so),
   inl (
     tokens,
     are,
-    sym (ap (λ (x : List Tok). answer_of section.closing_line (function x)) (sym seen_so) ∙ ap (answer_of section.closing_line) stops
+    sym (ap (λ (x : List Tok). answer_of section.closing_line (function x)) (sym seen_so) ∙ ap (answer_of section.closing_line) (fault_read ts r left stops)
         ∙ ap (λ (x : ℕ). Err (fault_of r x (text_at left))) (sym line_is) ∙ ap (λ (x : List ℕ). Err (fault_of r line x)) (sym bytes_are)),
   ),
 )
@@ -108,7 +134,7 @@ refuses_says text name r line bytes (section, ts, (finds, tokens, are, seen_so),
   inl (
     tokens,
     are,
-    sym (ap (λ (x : List Tok). answer_of section.closing_line (function x)) (sym seen_so) ∙ ap (answer_of section.closing_line) unfinished
+    sym (ap (λ (x : List Tok). answer_of section.closing_line (function x)) (sym seen_so) ∙ ap (answer_of section.closing_line) (ran_out_read ts (function ts) refl unfinished)
         ∙ rw (r_is, line_is, bytes_are) refl),
   ),
 )
@@ -138,9 +164,9 @@ Means text name (Ok func) = FileSpells text name func
 Means text name (Err fault) = FileStops text name fault
 
 read_means : (text name : List ℕ) (section : Section) (ts : List Tok) → HasTokens text name section ts → (read : Read Func) → function ts ≡ read → Means text name (answer_of section.closing_line read)
-read_means text name section ts has (Done func left) is = (section, ts, has, (left, is))
-read_means text name section ts has (Fault r left) is = stops_of text name r (line_at left) (text_at left) (section, ts, has, inl (left, is, refl, refl))
-read_means text name section ts has RanOut is = (section, ts, has, inr (is, refl, refl, refl))
+read_means text name section ts has (Done func left) is = (section, ts, has, spelled_by (Ok func) left ts is)
+read_means text name section ts has (Fault r left) is = stops_of text name r (line_at left) (text_at left) (section, ts, has, inl (left, stops_by (Err (stop.Refused r)) left ts is, refl, refl))
+read_means text name section ts has RanOut is = (section, ts, has, inr ((let (no_fault, begins) = stops_by (Err stop.RanOut) [] ts is in (no_fault, begins, none_spelled ts is)), refl, refl, refl))
 
 pub says_means : (text name : List ℕ) (answer : Result Func ReadFault) → Says text name answer → Means text name answer
 says_means text name answer (found.Nowhere, finds, is) = subst (Means text name) (sym is) finds
