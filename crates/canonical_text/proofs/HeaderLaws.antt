@@ -99,7 +99,7 @@ params_again unnamed (p ∷ next ∷ ps) pieces us vs ts rest (k, l, given, comm
 -- ---- the body
 
 -- the block behind the label of an entry, whether that is written or not
-entry_block : (unwritten : List ℕ) (b : Block) (us vs : List Tok) → SpellsEntryBlock unwritten b us vs → (k : List Tok) × SpellsBlock b k vs
+pub entry_block : (unwritten : List ℕ) (b : Block) (us vs : List Tok) → SpellsEntryBlock unwritten b us vs → (k : List Tok) × SpellsBlock b k vs
 entry_block unwritten b us vs (inl (lines, k, l, passed, label, is)) = (l, is)
 entry_block unwritten b us vs (inr (same, is)) = (us, is)
 

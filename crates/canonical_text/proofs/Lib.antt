@@ -5,3 +5,9 @@ pub mod FlagLaws
 pub mod OpLaws
 pub mod StatementLaws
 pub mod HeaderLaws
+pub mod NameLaws
+pub mod TokenLaws
+pub mod ScanLaws
+pub mod ViewLaws
+pub mod LineLaws
+pub mod StandLaws

@@ -28,7 +28,7 @@ use Rattle.canonical_text.proofs.FlagLaws.{flags_again}
 
 -- ---- words
 
-same_word : (kind : BinKind) → is_called kind ≡ false → (words.is_called kind ≡ false) × (words.bin_word kind ≡ word_of kind)
+pub same_word : (kind : BinKind) → is_called kind ≡ false → (words.is_called kind ≡ false) × (words.bin_word kind ≡ word_of kind)
 same_word bin.Add plain = (refl, refl)
 same_word bin.Sub plain = (refl, refl)
 same_word bin.Mul plain = (refl, refl)
@@ -45,7 +45,7 @@ same_word bin.Srem plain = (refl, refl)
 same_word kind called = absurd (true≢false called)
 
 -- the name of a called function, before its type
-called_word : (kind : BinKind) → is_called kind ≡ true → (words.is_called kind ≡ true) × ((t : List ℕ) → codes "llvm." ++ (words.bin_word kind ++ (codes "." ++ t)) ≡ word_of kind ++ t)
+pub called_word : (kind : BinKind) → is_called kind ≡ true → (words.is_called kind ≡ true) × ((t : List ℕ) → codes "llvm." ++ (words.bin_word kind ++ (codes "." ++ t)) ≡ word_of kind ++ t)
 called_word bin.Smin called = (refl, λ t. refl)
 called_word bin.Smax called = (refl, λ t. refl)
 called_word bin.Umin called = (refl, λ t. refl)

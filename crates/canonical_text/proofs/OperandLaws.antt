@@ -21,7 +21,7 @@ use Rattle.canonical_text.proofs.ShownLaws.{spaced, blank, last}
 
 -- ---- literals
 
-within_64 : (w n : ℕ) → w ≤ 32 → n < 2 ^ w → n < 2 ^ 64
+pub within_64 : (w n : ℕ) → w ≤ 32 → n < 2 ^ w → n < 2 ^ 64
 within_64 w n few fits = let most : 2 ^ w ≤ 2 ^ 32 = pow_mono few in omega (arith, most, fits)
 
 number_fits : (w n : ℕ) (text : List ℕ) → WritesNumber w n text → n < 2 ^ w

@@ -1,13 +1,26 @@
 //! The laws.
 
-ghost use Rattle.std.specs.Prelude.{List, []};
+ghost use Rattle.std.specs.Prelude.{◌≡◌, ℕ, List, []};
+ghost use Rattle.ll_token.specs.declared.token.Token.{Token};
+ghost use Rattle.ll_token.specs.Scan.{AreTokens};
 ghost use Rattle.ll_tree.specs.declared.func.Func.{Func};
-ghost use Rattle.ll_grammar.specs.Tokens.{Tok};
+ghost use Rattle.ll_tree.specs.Text.{canonical, pieces_of};
+ghost use Rattle.ll_grammar.specs.Tokens.{Tok, seen};
 ghost use Rattle.ll_grammar.specs.Spells.{SpellsFunction};
 ghost use Rattle.canonical_text.specs.Shown.{ShowAll, open_pieces};
+ghost use Rattle.canonical_text.specs.Named.{AreNamed};
 
 /// The tokens of the canonical text of a tree that some tokens spell are tokens that spell it.
 pub fn shown_tokens_spell_the_tree()
     ensures { (func : Func) (given shown : List Tok) → SpellsFunction func given
         → ShowAll (open_pieces func) shown [] → SpellsFunction func shown }
+{}
+
+/// The canonical text of a tree that some tokens spell, each name of which has a byte, has tokens, and
+/// what the grammar sees of them are the tokens of its pieces.
+pub fn canonical_text_has_its_tokens()
+    ensures { (func : Func) (given : List Tok) (first_line before : ℕ)
+        → SpellsFunction func given → AreNamed (pieces_of func)
+        → (tokens : List Token) × AreTokens (canonical func) first_line tokens
+        × ShowAll (pieces_of func) (seen (canonical func) before tokens) [] }
 {}

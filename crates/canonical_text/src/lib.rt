@@ -4,4 +4,4 @@
 
 mod laws;
 
-pub use laws::shown_tokens_spell_the_tree;
+pub use laws::{canonical_text_has_its_tokens, shown_tokens_spell_the_tree};
