@@ -11,3 +11,4 @@ pub mod ScanLaws
 pub mod ViewLaws
 pub mod LineLaws
 pub mod StandLaws
+pub mod ReadBackLaws

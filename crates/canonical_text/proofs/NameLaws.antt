@@ -49,10 +49,17 @@ escaped_is byte few = go (is_plain byte) refl
         (inl (refl, eqb-false byte 92 (not_true_is (eqb byte 92) marks.1)), rw (no_quote, no_line_end) refl)
     go false e =
         let high = hex_is (byte / 16) (omega (arith, few)) in
-        let low = hex_is (byte % 16) (omega arith) in
-        (inr (inr (hex_digit (byte / 16), hex_digit (byte % 16), refl, subst (λ (n : ℕ). n < 16) (sym high.0) (omega (arith, few)), subst (λ (n : ℕ). n < 16) (sym low.0) (omega arith),
-        sym (ap (λ (n : ℕ). 16 * n + digit_value (hex_digit (byte % 16))) high.0 ∙ ap (λ (n : ℕ). 16 * (byte / 16) + n) low.0 ∙ omega arith))),
-        rw (high.1, low.1) refl)
+        let low = hex_is (byte % 16) (omega arith) in (
+          inr (inr (
+            hex_digit (byte / 16),
+            hex_digit (byte % 16),
+            refl,
+            subst (λ (n : ℕ). n < 16) (sym high.0) (omega (arith, few)),
+            subst (λ (n : ℕ). n < 16) (sym low.0) (omega arith),
+            sym (ap (λ (n : ℕ). 16 * n + digit_value (hex_digit (byte % 16))) high.0 ∙ ap (λ (n : ℕ). 16 * (byte / 16) + n) low.0 ∙ omega arith),
+          )),
+          rw (high.1, low.1) refl,
+        )
 
 all_escaped : (name : List ℕ) → AreBytes name → StandsFor (flat_map escaped name) name [] × (list_all is_inner (flat_map escaped name) ≡ true)
 all_escaped [] bytes = (refl, refl)

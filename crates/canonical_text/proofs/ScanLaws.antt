@@ -99,9 +99,13 @@ scan_token first kind text after before gap bytes line at tokens parts at_is lin
     let place : at ≡ length (before ++ gap) = at_is ∙ sym (length-append before gap) in
     let here : line ≡ first + line_ends (before ++ gap) = line_is ∙ ap (λ (n : ℕ). first + n) (sym (line_ends-append before gap)) in
     let starts : StartsWith first before bytes (token kind text line at) end after = record {
-      gap = gap; text = text; whole = parts; blank = spaces_gap gap spaces;
+      gap = gap;
+      text = text;
+      whole = parts;
+      blank = spaces_gap gap spaces;
       is_token = record { start = place; end = ap (λ (n : ℕ). n + length text) place; line = here; form = is };
-      up_to = refl } in
+      up_to = refl;
+    } in
     let facts = starts_end first before bytes (token kind text line at) end after starts in
     let more = onward end (omega (arith, facts.0)) (omega (arith, facts.1)) in
     (more.0, more.1, (end, after, starts, more.2), more.3)

@@ -22,6 +22,7 @@ use Rattle.ll_tree.specs.Text.{operand_piece, literal, flag, result_pieces, has_
 use Rattle.ll_grammar.specs.Tokens.{Tok}
 use Rattle.ll_grammar.specs.Spells.{SpellsOp, SpellsResultOf, SpellsPhi, SpellsEnd, SpellPhis, SpellInstrs, SpellsBlock, SpellBlocks, SpellsEntryBlock, SpellBody, SpellsRange, SpellsAttributes, SpellsResult, is_some, SpellsParam, SpellParams, unnamed_with, count_unnamed, SpellsFunction}
 use Rattle.ll_grammar.proofs.FlagLaws.{or_true}
+use Rattle.canonical_text.specs.Shown.{open_pieces}
 use Rattle.canonical_text.proofs.HeaderLaws.{entry_block}
 use Rattle.canonical_text.proofs.TokenLaws.{IsLexed, starts_apart, stands_alone, are_apart}
 use Rattle.canonical_text.proofs.ScanLaws.{is_calling, assumes, IsCalmAt, fresh_behind, Stand}
@@ -226,3 +227,8 @@ pub function_stands : (func : Func) (us : List Tok) → SpellsFunction func us �
 function_stands func us spells =
     header_stands func us (flat_map block_pieces func.blocks ++ Mark 125 ∷ LineEnd ∷ []) spells
     (body_stands (decimal (count_unnamed 0 func.params)) func.blocks spells.body (Mark 125 ∷ LineEnd ∷ []) spells.is_body (refl, refl, tt, (tt, refl, tt, tt)))
+
+pub open_stands : (func : Func) (us : List Tok) → SpellsFunction func us → Stand true (open_pieces func)
+open_stands func us spells =
+    header_stands func us (flat_map block_pieces func.blocks) spells
+    (subst (Stand true) (append-nil (flat_map block_pieces func.blocks)) (body_stands (decimal (count_unnamed 0 func.params)) func.blocks spells.body [] spells.is_body tt))

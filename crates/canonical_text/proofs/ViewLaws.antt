@@ -138,37 +138,53 @@ view whole (Blank ∷ ps) front b line at fresh parts a same stand named =
     (_, refl, view whole ps (front ++ 32 ∷ []) b line (at + 1) fresh (farther whole front (32 ∷ []) (written ps) at parts a) (end_is whole front (32 ∷ []) (written ps) at parts a) same stand.3 named.1)
 view whole (LineEnd ∷ ps) front b line at fresh parts a same stand named =
     (_, refl, view whole ps (front ++ 10 ∷ []) b (line + 1) (at + 1) true (farther whole front (10 ∷ []) (written ps) at parts a) (end_is whole front (10 ∷ []) (written ps) at parts a) (λ e. absurd (true≢false e)) stand.3 named.1)
-view whole (Word w ∷ ps) front b line at fresh parts a same stand named =
-    (_, ((_, refl, refl, slice whole front w (written ps) kinds.Word line at parts a), calm whole w front ps b line at fresh parts a same stand.2 stand.3 named.1),
-    view whole ps (front ++ w) line line (at + length w) false (farther whole front w (written ps) at parts a) (end_is whole front w (written ps) at parts a) (λ e. refl) stand.3 named.1)
+view whole (Word w ∷ ps) front b line at fresh parts a same stand named = (
+  _,
+  ((_, refl, refl, slice whole front w (written ps) kinds.Word line at parts a), calm whole w front ps b line at fresh parts a same stand.2 stand.3 named.1),
+  view whole ps (front ++ w) line line (at + length w) false (farther whole front w (written ps) at parts a) (end_is whole front w (written ps) at parts a) (λ e. refl) stand.3 named.1,
+)
 view whole (Bits w ∷ ps) front b line at fresh parts a same stand named =
-    let text : List ℕ = type_word w in
-    (_, (_, refl, refl, slice whole front text (written ps) kinds.Word line at parts a),
-    view whole ps (front ++ text) line line (at + length text) false (farther whole front text (written ps) at parts a) (end_is whole front text (written ps) at parts a) (λ e. refl) stand.3 named.1)
+    let text : List ℕ = type_word w in (
+      _,
+      (_, refl, refl, slice whole front text (written ps) kinds.Word line at parts a),
+      view whole ps (front ++ text) line line (at + length text) false (farther whole front text (written ps) at parts a) (end_is whole front text (written ps) at parts a) (λ e. refl) stand.3 named.1,
+    )
 view whole (Number n ∷ ps) front b line at fresh parts a same stand named =
-    let text : List ℕ = decimal n in
-    (_, (_, refl, refl, slice whole front text (written ps) kinds.Number line at parts a),
-    view whole ps (front ++ text) line line (at + length text) false (farther whole front text (written ps) at parts a) (end_is whole front text (written ps) at parts a) (λ e. refl) stand.3 named.1)
+    let text : List ℕ = decimal n in (
+      _,
+      (_, refl, refl, slice whole front text (written ps) kinds.Number line at parts a),
+      view whole ps (front ++ text) line line (at + length text) false (farther whole front text (written ps) at parts a) (end_is whole front text (written ps) at parts a) (λ e. refl) stand.3 named.1,
+    )
 view whole (Local n ∷ ps) front b line at fresh parts a same stand named =
-    let text : List ℕ = 37 ∷ name_text n in
-    (_, (_, refl, refl, held_there whole front text (written ps) at parts a kinds.Local n line refl (local_holds n (written ps) named.0 (ends_piece (Local n) ps refl stand.1))),
-    view whole ps (front ++ text) line line (at + length text) false (farther whole front text (written ps) at parts a) (end_is whole front text (written ps) at parts a) (λ e. refl) stand.3 named.1)
+    let text : List ℕ = 37 ∷ name_text n in (
+      _,
+      (_, refl, refl, held_there whole front text (written ps) at parts a kinds.Local n line refl (local_holds n (written ps) named.0 (ends_piece (Local n) ps refl stand.1))),
+      view whole ps (front ++ text) line line (at + length text) false (farther whole front text (written ps) at parts a) (end_is whole front text (written ps) at parts a) (λ e. refl) stand.3 named.1,
+    )
 view whole (Global n ∷ ps) front b line at fresh parts a same stand named =
-    let text : List ℕ = 64 ∷ name_text n in
-    (_, (_, refl, refl, held_there whole front text (written ps) at parts a kinds.Global n line refl (global_holds n (written ps) named.0 (ends_piece (Global n) ps refl stand.1))),
-    view whole ps (front ++ text) line line (at + length text) false (farther whole front text (written ps) at parts a) (end_is whole front text (written ps) at parts a) (λ e. refl) stand.3 named.1)
+    let text : List ℕ = 64 ∷ name_text n in (
+      _,
+      (_, refl, refl, held_there whole front text (written ps) at parts a kinds.Global n line refl (global_holds n (written ps) named.0 (ends_piece (Global n) ps refl stand.1))),
+      view whole ps (front ++ text) line line (at + length text) false (farther whole front text (written ps) at parts a) (end_is whole front text (written ps) at parts a) (λ e. refl) stand.3 named.1,
+    )
 view whole (Label n ∷ ps) front b line at fresh parts a same stand named =
-    let text : List ℕ = name_text n ++ 58 ∷ [] in
-    (_, (_, refl, refl, held_there whole front text (written ps) at parts a kinds.Label n line refl (label_holds n (written ps) named.0)),
-    view whole ps (front ++ text) line line (at + length text) false (farther whole front text (written ps) at parts a) (end_is whole front text (written ps) at parts a) (λ e. refl) stand.3 named.1)
+    let text : List ℕ = name_text n ++ 58 ∷ [] in (
+      _,
+      (_, refl, refl, held_there whole front text (written ps) at parts a kinds.Label n line refl (label_holds n (written ps) named.0)),
+      view whole ps (front ++ text) line line (at + length text) false (farther whole front text (written ps) at parts a) (end_is whole front text (written ps) at parts a) (λ e. refl) stand.3 named.1,
+    )
 view whole (Intrinsic word w ∷ ps) front b line at fresh parts a same stand named =
-    let text : List ℕ = 64 ∷ called_name word w in
-    (_, (_, refl, refl, held_there whole front text (written ps) at parts a kinds.Global (called_name word w) line refl (intrinsic_holds word w (written ps) stand.0 (ends_piece (Intrinsic word w) ps refl stand.1))),
-    view whole ps (front ++ text) line line (at + length text) false (farther whole front text (written ps) at parts a) (end_is whole front text (written ps) at parts a) (λ e. refl) stand.3 named.1)
+    let text : List ℕ = 64 ∷ called_name word w in (
+      _,
+      (_, refl, refl, held_there whole front text (written ps) at parts a kinds.Global (called_name word w) line refl (intrinsic_holds word w (written ps) stand.0 (ends_piece (Intrinsic word w) ps refl stand.1))),
+      view whole ps (front ++ text) line line (at + length text) false (farther whole front text (written ps) at parts a) (end_is whole front text (written ps) at parts a) (λ e. refl) stand.3 named.1,
+    )
 view whole (Mark byte ∷ ps) front b line at fresh parts a same stand named =
-    let text : List ℕ = byte ∷ [] in
-    (_, (_, refl, refl, slice whole front text (written ps) kinds.Mark line at parts a),
-    view whole ps (front ++ text) line line (at + length text) false (farther whole front text (written ps) at parts a) (end_is whole front text (written ps) at parts a) (λ e. refl) stand.3 named.1)
+    let text : List ℕ = byte ∷ [] in (
+      _,
+      (_, refl, refl, slice whole front text (written ps) kinds.Mark line at parts a),
+      view whole ps (front ++ text) line line (at + length text) false (farther whole front text (written ps) at parts a) (end_is whole front text (written ps) at parts a) (λ e. refl) stand.3 named.1,
+    )
 
 pub pieces_seen : (pieces : List Piece) (first before : ℕ) → Stand true pieces → AreNamed pieces → ShowAll pieces (seen (written pieces) before (tokens_of first 0 pieces)) []
 pieces_seen pieces first before stand named = view (written pieces) pieces [] before first 0 true refl refl (λ e. absurd (true≢false e)) stand named

@@ -1,9 +1,10 @@
 //! The laws.
 
-ghost use Rattle.std.specs.Prelude.{◌≡◌, ℕ, List, []};
+ghost use Rattle.std.specs.Prelude.{ℕ, List, []};
 ghost use Rattle.ll_token.specs.declared.token.Token.{Token};
 ghost use Rattle.ll_token.specs.Scan.{AreTokens};
 ghost use Rattle.ll_tree.specs.declared.func.Func.{Func};
+ghost use Rattle.ll_tree.specs.Pieces.{written};
 ghost use Rattle.ll_tree.specs.Text.{canonical, pieces_of};
 ghost use Rattle.ll_grammar.specs.Tokens.{Tok, seen};
 ghost use Rattle.ll_grammar.specs.Spells.{SpellsFunction};
@@ -16,11 +17,23 @@ pub fn shown_tokens_spell_the_tree()
         → ShowAll (open_pieces func) shown [] → SpellsFunction func shown }
 {}
 
-/// The canonical text of a tree that some tokens spell, each name of which has a byte, has tokens, and
-/// what the grammar sees of them are the tokens of its pieces.
+/// The canonical text of a tree that some tokens spell has tokens, and what the grammar sees of them are the
+/// tokens of its pieces; also without the brace that closes it. Each name has to have a byte.
 pub fn canonical_text_has_its_tokens()
-    ensures { (func : Func) (given : List Tok) (first_line before : ℕ)
+    ensures whole { (func : Func) (given : List Tok) (first_line before : ℕ)
         → SpellsFunction func given → AreNamed (pieces_of func)
         → (tokens : List Token) × AreTokens (canonical func) first_line tokens
         × ShowAll (pieces_of func) (seen (canonical func) before tokens) [] }
+    ensures unclosed { (func : Func) (given : List Tok) (first_line before : ℕ)
+        → SpellsFunction func given → AreNamed (open_pieces func)
+        → (tokens : List Token) × AreTokens (written (open_pieces func)) first_line tokens
+        × ShowAll (open_pieces func) (seen (written (open_pieces func)) before tokens) [] }
+{}
+
+/// So the canonical text without the brace that closes it has tokens, and they spell the tree.
+pub fn canonical_text_spells_its_tree()
+    ensures { (func : Func) (given : List Tok) (first_line before : ℕ)
+        → SpellsFunction func given → AreNamed (open_pieces func)
+        → (tokens : List Token) × AreTokens (written (open_pieces func)) first_line tokens
+        × SpellsFunction func (seen (written (open_pieces func)) before tokens) }
 {}
