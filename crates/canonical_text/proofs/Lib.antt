@@ -12,3 +12,5 @@ pub mod ViewLaws
 pub mod LineLaws
 pub mod StandLaws
 pub mod ReadBackLaws
+pub mod RealLaws
+pub mod NamedLaws

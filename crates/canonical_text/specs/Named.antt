@@ -1,5 +1,7 @@
--- What holds of each name that a text writes: one byte at least, and bytes.
+-- What holds of each name that a text writes: one byte at least, and bytes. And of the tokens of a text.
 use Rattle.std.specs.Prelude.{◌<◌, ℕ, List, [], ◌∷◌, length}
+use Rattle.ll_token.specs.Lexemes.{IsToken}
+use Rattle.ll_grammar.specs.Tokens.{Tok}
 use Rattle.ll_tree.specs.Pieces.{Piece, Word, Bits, Number, Local, Global, Label, Intrinsic, Mark, Blank, LineEnd}
 
 abbrev pub AreBytes : List ℕ → Type 0
@@ -25,3 +27,11 @@ IsNamed LineEnd = Unit {0}
 abbrev pub AreNamed : List Piece → Type 0
 AreNamed [] = Unit {0}
 AreNamed (piece ∷ pieces) = IsNamed piece × AreNamed pieces
+
+-- A token whose bytes are bytes, and of its kind before some others.
+abbrev pub IsReal : Tok → Type 0
+IsReal t = AreBytes t.text × ((after : List ℕ) × IsToken t.kind t.text after)
+
+abbrev pub AreReal : List Tok → Type 0
+AreReal [] = Unit {0}
+AreReal (t ∷ ts) = IsReal t × AreReal ts

@@ -1,6 +1,6 @@
 //! The laws.
 
-ghost use Rattle.std.specs.Prelude.{ℕ, List, []};
+ghost use Rattle.std.specs.Prelude.{◌<◌, ◌^◌, ℕ, List, [], length};
 ghost use Rattle.ll_token.specs.declared.token.Token.{Token};
 ghost use Rattle.ll_token.specs.Scan.{AreTokens};
 ghost use Rattle.ll_tree.specs.declared.func.Func.{Func};
@@ -9,7 +9,7 @@ ghost use Rattle.ll_tree.specs.Text.{canonical, pieces_of};
 ghost use Rattle.ll_grammar.specs.Tokens.{Tok, seen};
 ghost use Rattle.ll_grammar.specs.Spells.{SpellsFunction};
 ghost use Rattle.canonical_text.specs.Shown.{ShowAll, open_pieces};
-ghost use Rattle.canonical_text.specs.Named.{AreNamed};
+ghost use Rattle.canonical_text.specs.Named.{AreNamed, AreReal};
 
 /// The tokens of the canonical text of a tree that some tokens spell are tokens that spell it.
 pub fn shown_tokens_spell_the_tree()
@@ -28,6 +28,12 @@ pub fn canonical_text_has_its_tokens()
         → SpellsFunction func given → AreNamed (open_pieces func)
         → (tokens : List Token) × AreTokens (written (open_pieces func)) first_line tokens
         × ShowAll (open_pieces func) (seen (written (open_pieces func)) before tokens) [] }
+{}
+
+/// Each name of a tree that the tokens of a text spell has a byte.
+pub fn names_have_a_byte()
+    ensures { (func : Func) (given : List Tok) → length given < 2 ^ 64 → AreReal given
+        → SpellsFunction func given → AreNamed (open_pieces func) }
 {}
 
 /// So the canonical text without the brace that closes it has tokens, and they spell the tree.
