@@ -11,6 +11,6 @@ pub mod ScanLaws
 pub mod ViewLaws
 pub mod LineLaws
 pub mod StandLaws
-pub mod ReadBackLaws
 pub mod RealLaws
 pub mod NamedLaws
+pub mod ReadBackLaws

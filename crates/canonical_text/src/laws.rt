@@ -9,7 +9,7 @@ ghost use Rattle.ll_tree.specs.Text.{canonical, pieces_of};
 ghost use Rattle.ll_grammar.specs.Tokens.{Tok, seen};
 ghost use Rattle.ll_grammar.specs.Spells.{SpellsFunction};
 ghost use Rattle.canonical_text.specs.Shown.{ShowAll, open_pieces};
-ghost use Rattle.canonical_text.specs.Named.{AreNamed, AreReal};
+ghost use Rattle.canonical_text.specs.Named.{AreBytes, AreNamed, AreReal};
 
 /// The tokens of the canonical text of a tree that some tokens spell are tokens that spell it.
 pub fn shown_tokens_spell_the_tree()
@@ -42,4 +42,14 @@ pub fn canonical_text_spells_its_tree()
         → SpellsFunction func given → AreNamed (open_pieces func)
         → (tokens : List Token) × AreTokens (written (open_pieces func)) first_line tokens
         × SpellsFunction func (seen (written (open_pieces func)) before tokens) }
+{}
+
+/// The canonical text of a tree that the tokens of a text spell has tokens that spell it too. The brace that
+/// closes it stands behind both texts.
+pub fn canonical_text_is_read_back()
+    ensures { (text : List ℕ) (line again_line before again_before : ℕ) (tokens : List Token) (func : Func)
+        → AreBytes text → length text < 2 ^ 64
+        → AreTokens text line tokens → SpellsFunction func (seen text before tokens)
+        → (again : List Token) × AreTokens (written (open_pieces func)) again_line again
+        × SpellsFunction func (seen (written (open_pieces func)) again_before again) }
 {}
