@@ -1,17 +1,17 @@
 -- Flags: the words that are shown are those of the flags, each once.
 use Rattle.std.proofs.Common.{◌≡◌, ℕ, Bool, true, false, ◌&&◌, ◌||◌, List, [], ◌∷◌, ◌++◌, refl, sym, ap, ◌∙◌, subst, true≢false}
 use Rattle.std.specs.Prelude.{codes, IsTrue}
-use Rattle.std.specs.List.{list_all, list_any}
+use Rattle.std.specs.List.{list_all}
 use Rattle.std.specs.Str.{bytes_eq}
 use Rattle.ll_tree.specs.declared.op.Flags.{Flags}
-use Rattle.ll_tree.specs.Pieces.{Piece, Word, Blank}
+use Rattle.ll_tree.specs.Pieces.{Piece, Word}
 use Rattle.ll_tree.specs.Text.{flag, flag_pieces}
 use Rattle.ll_grammar.specs.Tokens.{Tok}
-use Rattle.ll_grammar.specs.Spells.{IsWord, AreWords, has, AreOnce, flags_of, flag_words, AreFlags}
+use Rattle.ll_grammar.specs.Spells.{AreWords, has, AreOnce, flags_of, flag_words, AreFlags}
 use Rattle.ll_grammar.proofs.TokenLaws.{same_bytes, both_true}
 use Rattle.ll_grammar.proofs.FlagLaws.{or_false, or_true, and_true, and_false, or_assoc}
-use Rattle.canonical_text.specs.Shown.{Shows, ShowAll}
-use Rattle.canonical_text.proofs.ShownLaws.{split, spaced, last, blank}
+use Rattle.canonical_text.specs.Shown.{ShowAll}
+use Rattle.canonical_text.proofs.ShownLaws.{split, spaced}
 
 -- a word, where it is wanted, before others
 abbrev pub with_word : Bool → List ℕ → List (List ℕ) → List (List ℕ)

@@ -1,10 +1,9 @@
 -- The header and the whole function: what is shown spells them where something does.
-use Rattle.std.proofs.Common.{◌≡◌, ◌⊎◌, ◌≤◌, ◌&&◌, ℕ, zero, suc, Bool, true, false, List, [], ◌∷◌, ◌++◌, Option, Some, None, refl, sym, ap, ◌∙◌, subst, inl, inr, arith, true≢false, append_assoc, append-nil}
-use Rattle.std.specs.Prelude.{codes, IsTrue}
+use Rattle.std.proofs.Common.{◌≡◌, ◌&&◌, ℕ, Bool, true, false, List, [], ◌∷◌, ◌++◌, Option, Some, None, refl, sym, ap, ◌∙◌, subst, inl, inr, true≢false}
+use Rattle.std.specs.Prelude.{codes}
 use Rattle.std.specs.List.{flat_map, list_all}
 use Rattle.std.proofs.lemmas.List.Elements.{All-nil}
 use Rattle.op_table.specs.Words as tables
-use Rattle.ll_token.specs.declared.token.TokenKind.TheVariants as kinds
 use Rattle.ll_tree.specs.declared.func.Func.{Func}
 use Rattle.ll_tree.specs.declared.func.Ret.{Ret}
 use Rattle.ll_tree.specs.declared.func.Ret.TheVariants as ret
@@ -14,9 +13,9 @@ use Rattle.ll_tree.specs.declared.block.Block.{Block}
 use Rattle.ll_tree.specs.Pieces.{Piece, Word, Bits, Local, Global, Mark, Blank, LineEnd, separated}
 use Rattle.ll_tree.specs.Text.{literal, flag, range_pieces, ret_piece, ret_width, param_pieces, ret_pieces, signature_pieces, header_pieces, block_pieces}
 use Rattle.ll_grammar.specs.Tokens.{Tok}
-use Rattle.ll_grammar.specs.Spells.{IsWord, IsMark, IsNameOf, IsType, IsLiteral, AreWords, has, AreAttributes, SpellsRange, SpellsAttributes, SpellsResult, is_some, SpellsParam, SpellParams, unnamed_with, SpellsBlock, SpellsEntryBlock, SpellBody, IsNoBrace, SpellsFunction}
+use Rattle.ll_grammar.specs.Spells.{IsMark, has, SpellsRange, SpellsAttributes, SpellsResult, is_some, SpellsParam, SpellParams, unnamed_with, SpellsBlock, SpellsEntryBlock, SpellBody, IsNoBrace, SpellsFunction}
 use Rattle.ll_grammar.proofs.FlagLaws.{and_true, and_false}
-use Rattle.canonical_text.specs.Shown.{Shows, ShowAll, open_pieces}
+use Rattle.canonical_text.specs.Shown.{ShowAll, open_pieces}
 use Rattle.canonical_text.proofs.ShownLaws.{split, spaced, blank, line_end, last}
 use Rattle.canonical_text.proofs.OperandLaws.{literal_again, type_again}
 use Rattle.canonical_text.proofs.FlagLaws.{with_word, flag_shown}

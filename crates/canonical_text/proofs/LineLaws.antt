@@ -1,8 +1,8 @@
 -- The pieces of instructions, phis and terminators: each is lexed as it stands, none ends the line.
-use Rattle.std.proofs.Common.{◌≡◌, ◌⊎◌, ◌<◌, ◌≤◌, ◌^◌, ℕ, zero, suc, Bool, true, false, ◌&&◌, ◌||◌, eqb, List, [], ◌∷◌, ◌++◌, refl, sym, ap, ◌∙◌, subst, inl, inr, true≢false, append_assoc, append-nil}
+use Rattle.std.proofs.Common.{◌≡◌, ◌<◌, ◌≤◌, ◌^◌, ℕ, Bool, true, false, ◌||◌, eqb, List, [], ◌∷◌, ◌++◌, refl, sym, ap, subst, append_assoc}
 use Rattle.std.specs.Prelude.{codes, if◌then◌else◌}
 use Rattle.std.specs.List.{flat_map, list_all}
-use Rattle.ll_token.specs.Bytes.{is_run_byte, is_mark, is_number}
+use Rattle.ll_token.specs.Bytes.{is_run_byte, is_mark}
 use Rattle.ll_tree.specs.declared.block.Phi.{Phi}
 use Rattle.ll_tree.specs.declared.block.PhiEntry.{PhiEntry}
 use Rattle.ll_tree.specs.declared.block.Case.{Case}
@@ -20,11 +20,10 @@ use Rattle.ll_tree.specs.declared.op.CastKind.TheVariants as cast
 use Rattle.ll_tree.specs.declared.op.Pred.{Pred}
 use Rattle.ll_tree.specs.declared.op.Pred.TheVariants as pred
 use Rattle.ll_tree.specs.Words as words
-use Rattle.ll_tree.specs.Naming.{is_run}
-use Rattle.ll_tree.specs.Pieces.{Piece, Word, Bits, Number, Local, Global, Label, Intrinsic, Mark, Blank, LineEnd, separated}
-use Rattle.ll_tree.specs.Text.{literal, operand_piece, pair, flag, flag_pieces, bin_pieces, truth, abs_pieces, assume_pieces, op_pieces, entry_pieces, phi_pieces, target, case_pieces, end_pieces}
+use Rattle.ll_tree.specs.Pieces.{Piece, Word, Bits, Number, Local, Global, Intrinsic, Mark, Blank, LineEnd, separated}
+use Rattle.ll_tree.specs.Text.{literal, operand_piece, pair, flag, flag_pieces, bin_pieces, truth, op_pieces, entry_pieces, phi_pieces, target, case_pieces, end_pieces}
 use Rattle.ll_grammar.specs.Tokens.{Tok}
-use Rattle.ll_grammar.specs.Spells.{IsType, IsLiteral, IsOperand, IsTyped, IsSecond, BeginsCall, SpellsBin, SpellsOp, is_called, word_of, SpellsEntry, SpellEntries, SpellsPhi, SpellsCase, SpellCases, SpellsEnd}
+use Rattle.ll_grammar.specs.Spells.{IsLiteral, IsOperand, IsTyped, IsSecond, BeginsCall, SpellsBin, SpellsOp, is_called, word_of, SpellsEntry, SpellEntries, SpellsPhi, SpellsCase, SpellCases, SpellsEnd}
 use Rattle.ll_grammar.proofs.FlagLaws.{or_true}
 use Rattle.canonical_text.proofs.OperandLaws.{within_64, literal_fits}
 use Rattle.canonical_text.proofs.OpLaws.{same_word, called_word}

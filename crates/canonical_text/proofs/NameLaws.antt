@@ -1,15 +1,15 @@
 -- A name as it is written is a token's name.
-use Rattle.std.proofs.Common.{◌≡◌, ◌≢◌, ◌⊎◌, ◌<◌, ◌≤◌, ◌+◌, ◌*◌, ◌-◌, ◌/◌, ◌%◌, ℕ, zero, suc, Bool, true, false, cond, not, ◌&&◌, ◌||◌, eqb, ltb, leb, List, [], ◌∷◌, ◌++◌, length, refl, sym, ap, ◌∙◌, subst, inl, inr, arith, true≢false}
+use Rattle.std.proofs.Common.{◌≡◌, ◌<◌, ◌≤◌, ◌+◌, ◌*◌, ◌/◌, ◌%◌, ℕ, zero, suc, Bool, true, false, cond, not, ◌&&◌, eqb, ltb, leb, List, [], ◌∷◌, ◌++◌, length, refl, sym, ap, ◌∙◌, subst, inl, inr, arith}
 use Rattle.std.specs.List.{list_all, flat_map}
 use Rattle.std.specs.Char.{digit_value}
-use Rattle.std.proofs.lemmas.Bool.{ltb-true, leb-true, le-leb, eqb-false, ne_eqb, and_from}
+use Rattle.std.proofs.lemmas.Bool.{ltb-true, leb-true, eqb-false, ne_eqb, and_from}
 use Rattle.std.proofs.lemmas.List.Folds.{list_all-append}
 use Rattle.ll_token.specs.Bytes.{is_run_byte, is_inner, begins}
-use Rattle.ll_token.specs.Names.{IsPiece, StandsFor, IsRun, IsQuoted, Writes}
+use Rattle.ll_token.specs.Names.{IsPiece, StandsFor, IsRun, Writes}
 use Rattle.ll_tree.specs.Naming.{hex_digit, is_plain, escaped, is_run, name_text}
 use Rattle.ll_grammar.proofs.TokenLaws.{both_true}
 use Rattle.ll_grammar.proofs.FlagLaws.{not_true_is}
-use Rattle.canonical_text.specs.Named.{AreBytes, IsName}
+use Rattle.canonical_text.specs.Named.{AreBytes}
 
 abbrev IsHex : ℕ → Type 0
 IsHex d = (digit_value (hex_digit d) ≡ d) × (is_inner (hex_digit d) ≡ true)

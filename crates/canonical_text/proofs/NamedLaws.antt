@@ -1,5 +1,5 @@
 -- Each name of a tree that tokens of a text spell has a byte.
-use Rattle.std.proofs.Common.{◌≡◌, ◌⊎◌, ◌<◌, ◌≤◌, ◌+◌, ◌^◌, ℕ, zero, suc, Bool, true, false, eqb, List, [], ◌∷◌, ◌++◌, length, Option, Some, None, refl, sym, ap, ◌∙◌, subst, inl, inr, arith, true≢false, append-nil}
+use Rattle.std.proofs.Common.{◌≡◌, ◌<◌, ◌≤◌, ◌+◌, ◌^◌, ℕ, Bool, true, false, eqb, List, [], ◌∷◌, ◌++◌, length, Option, Some, None, refl, sym, ap, subst, inl, inr, arith}
 use Rattle.std.specs.Prelude.{codes, if◌then◌else◌}
 use Rattle.std.specs.List.{flat_map}
 use Rattle.std.specs.Fmt.{decimal}
@@ -24,11 +24,11 @@ use Rattle.ll_tree.specs.declared.op.Op.TheVariants as op
 use Rattle.ll_tree.specs.declared.op.Flags.{Flags}
 use Rattle.ll_tree.specs.declared.op.BinKind.{BinKind}
 use Rattle.ll_tree.specs.Words as words
-use Rattle.ll_tree.specs.Pieces.{Piece, Word, Bits, Number, Local, Global, Label, Intrinsic, Mark, Blank, LineEnd, separated}
+use Rattle.ll_tree.specs.Pieces.{Piece, Word, Bits, Number, Local, Mark, Blank, LineEnd, separated}
 use Rattle.ll_tree.specs.Text.{literal, operand_piece, pair, flag, flag_pieces, bin_pieces, truth, op_pieces, result_pieces, has_result, instr_pieces, entry_pieces, phi_pieces, case_pieces, end_pieces, line, block_pieces, range_pieces, ret_piece, ret_width, param_pieces, ret_pieces, signature_pieces, header_pieces}
 use Rattle.ll_grammar.specs.Tokens.{Tok}
 use Rattle.ll_grammar.specs.Words.{takes, cast_takes, compare_takes}
-use Rattle.ll_grammar.specs.Spells.{IsWord, IsMark, IsNameOf, IsType, IsLiteral, IsOperand, IsTyped, IsSecond, IsTarget, IsNextTarget, AreFlags, IsCall, ClosesCall, BeginsCall, SpellsBin, is_called, word_of, cast_word, pred_word, SpellsOp, SpellsInstr, SpellsResultOf, SpellsEntry, SpellEntries, SpellsPhi, SpellsCase, SpellCases, SpellsEnd, IsStatement, SpellPhis, SpellInstrs, SpellsBlock, SpellBlocks, SpellsEntryBlock, SpellBody, SpellsRange, SpellsAttributes, SpellsResult, SpellsParam, SpellParams, unnamed_with, is_unnamed, count_unnamed, SpellsFunction}
+use Rattle.ll_grammar.specs.Spells.{IsMark, IsNameOf, IsType, IsOperand, IsTyped, IsSecond, IsTarget, IsNextTarget, AreFlags, IsCall, ClosesCall, BeginsCall, SpellsBin, is_called, word_of, cast_word, pred_word, SpellsOp, SpellsInstr, SpellsResultOf, SpellsEntry, SpellEntries, SpellsPhi, SpellsCase, SpellCases, SpellsEnd, IsStatement, SpellPhis, SpellInstrs, SpellsBlock, SpellBlocks, SpellsEntryBlock, SpellBody, SpellsRange, SpellsAttributes, SpellsResult, SpellsParam, SpellParams, unnamed_with, is_unnamed, count_unnamed, SpellsFunction}
 use Rattle.ll_grammar.proofs.LengthLaws.{attributes_take, param_takes}
 use Rattle.canonical_text.specs.Shown.{open_pieces}
 use Rattle.canonical_text.specs.Named.{IsName, IsNamed, AreNamed, AreReal}

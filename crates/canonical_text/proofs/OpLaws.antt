@@ -1,8 +1,6 @@
 -- Operations: what is shown spells them where something does.
-use Rattle.std.proofs.Common.{◌≡◌, ◌⊎◌, ◌≤◌, ◌<◌, ◌^◌, ℕ, zero, suc, Bool, true, false, ◌&&◌, eqb, List, [], ◌∷◌, ◌++◌, refl, sym, ap, ◌∙◌, subst, inl, inr, arith, true≢false, append_assoc}
+use Rattle.std.proofs.Common.{◌≡◌, ◌≤◌, ℕ, Bool, true, false, eqb, List, [], ◌∷◌, ◌++◌, refl, sym, subst, inl, inr, true≢false}
 use Rattle.std.specs.Prelude.{codes}
-use Rattle.std.specs.Fmt.{decimal}
-use Rattle.std.proofs.lemmas.Fmt.{decimal_digit}
 use Rattle.ll_token.specs.declared.token.TokenKind.TheVariants as kinds
 use Rattle.ll_tree.specs.declared.block.Operand.{Operand}
 use Rattle.ll_tree.specs.declared.op.Op.{Op}
@@ -16,14 +14,14 @@ use Rattle.ll_tree.specs.declared.op.Pred.{Pred}
 use Rattle.ll_tree.specs.declared.op.Pred.TheVariants as pred
 use Rattle.ll_tree.specs.Words as words
 use Rattle.ll_tree.specs.Words.{type_word}
-use Rattle.ll_tree.specs.Pieces.{Piece, Word, Bits, Number, Local, Global, Intrinsic, Mark, Blank}
+use Rattle.ll_tree.specs.Pieces.{Piece, Word, Bits, Global, Intrinsic, Mark, Blank}
 use Rattle.ll_tree.specs.Text.{operand_piece, pair, flag_pieces, bin_pieces, truth, abs_pieces, assume_pieces, op_pieces}
 use Rattle.ll_grammar.specs.Tokens.{Tok, debug_at}
 use Rattle.ll_grammar.specs.Words.{takes, cast_takes, compare_takes}
-use Rattle.ll_grammar.specs.Spells.{Is, IsWord, IsMark, IsNameOf, IsType, IsLiteral, IsOperand, IsTyped, IsSecond, IsCall, IsNoGroup, ClosesCall, BeginsCall, SpellsBin, SpellsOp, AreFlags, flags_of, word_of, is_called, cast_word, pred_word}
+use Rattle.ll_grammar.specs.Spells.{IsWord, IsNameOf, IsLiteral, IsTyped, IsSecond, IsNoGroup, ClosesCall, BeginsCall, SpellsBin, SpellsOp, word_of, is_called, cast_word, pred_word}
 use Rattle.canonical_text.specs.Shown.{Shows, ShowAll}
-use Rattle.canonical_text.proofs.ShownLaws.{split, spaced, blank, last}
-use Rattle.canonical_text.proofs.OperandLaws.{literal_again, operand_again, type_again, typed_again}
+use Rattle.canonical_text.proofs.ShownLaws.{spaced, blank, last}
+use Rattle.canonical_text.proofs.OperandLaws.{operand_again, type_again, typed_again}
 use Rattle.canonical_text.proofs.FlagLaws.{flags_again}
 
 -- ---- words

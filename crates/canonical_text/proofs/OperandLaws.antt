@@ -1,10 +1,10 @@
 -- Operands, types and targets: what is shown spells them where something does.
-use Rattle.std.proofs.Common.{◌≡◌, ◌≢◌, ◌⊎◌, ◌<◌, ◌≤◌, ◌^◌, ◌%◌, ℕ, zero, suc, Bool, true, false, cond, eqb, List, [], ◌∷◌, ◌++◌, length, refl, sym, ap, ◌∙◌, subst, inl, inr, arith, true≢false}
+use Rattle.std.proofs.Common.{◌≡◌, ◌≢◌, ◌<◌, ◌≤◌, ◌^◌, ℕ, Bool, true, false, eqb, List, [], ◌∷◌, refl, sym, subst, inl, inr, arith, true≢false}
 use Rattle.std.specs.Prelude.{codes, if◌then◌else◌}
 use Rattle.std.specs.List.{list_all}
 use Rattle.std.specs.Char.{is_ascii_digit}
 use Rattle.std.specs.Fmt.{decimal}
-use Rattle.std.proofs.lemmas.Bool.{and_parts, eqb-true, eqb-false, leb-true}
+use Rattle.std.proofs.lemmas.Bool.{eqb-true, eqb-false}
 use Rattle.std.proofs.lemmas.Nat.{pow_pos}
 use Rattle.std.proofs.Math.Nat.{mod-lt}
 use Rattle.std.proofs.Math.Pow.{pow_mono}
@@ -12,12 +12,12 @@ use Rattle.ll_token.specs.declared.token.TokenKind.TheVariants as kinds
 use Rattle.ll_tree.specs.declared.block.Operand.{Operand}
 use Rattle.ll_tree.specs.declared.block.Operand.TheVariants as value
 use Rattle.ll_tree.specs.Pieces.{Piece, Word, Bits, Number, Local, Mark, Blank}
-use Rattle.ll_tree.specs.Text.{literal, operand_piece, typed, target}
+use Rattle.ll_tree.specs.Text.{literal, operand_piece}
 use Rattle.ll_grammar.specs.Tokens.{Tok}
-use Rattle.ll_grammar.specs.Spells.{Is, IsWord, IsMark, IsNameOf, IsType, IsLiteral, IsOperand, IsTyped, IsSecond, IsTarget, IsNextTarget, WritesNumber, WritesBit, value_behind}
+use Rattle.ll_grammar.specs.Spells.{Is, IsType, IsLiteral, IsOperand, IsTyped, IsTarget, IsNextTarget, WritesNumber, WritesBit}
 use Rattle.canonical_text.specs.Shown.{Shows, ShowAll}
 use Rattle.canonical_text.proofs.DecimalLaws.{IsWritten, decimal_writes}
-use Rattle.canonical_text.proofs.ShownLaws.{spaced, blank, last}
+use Rattle.canonical_text.proofs.ShownLaws.{spaced}
 
 -- ---- literals
 

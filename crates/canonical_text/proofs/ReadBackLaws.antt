@@ -1,9 +1,9 @@
 -- The canonical text has the tokens of its pieces, and they spell its tree.
-use Rattle.std.proofs.Common.{◌≡◌, ◌<◌, ◌≤◌, ◌+◌, ◌-◌, ◌^◌, ℕ, zero, suc, true, List, [], ◌∷◌, length, take, drop, refl, sym, ap, ◌∙◌, subst, arith}
+use Rattle.std.proofs.Common.{◌≡◌, ◌<◌, ◌≤◌, ◌+◌, ◌-◌, ◌^◌, ℕ, zero, suc, true, List, [], ◌∷◌, length, take, drop, refl, ap, arith}
 use Rattle.std.specs.Prelude.{All}
 use Rattle.std.proofs.lemmas.List.Elements.{All-head, All-tail}
 use Rattle.ll_token.specs.declared.token.Token.{Token}
-use Rattle.ll_token.specs.Scan.{AreTokens, AreInOrder, IsTokenOf, text_of}
+use Rattle.ll_token.specs.Scan.{AreTokens, AreInOrder, IsTokenOf}
 use Rattle.ll_token.proofs.ScanLaws.{in_order, each_is}
 use Rattle.ll_tree.specs.declared.func.Func.{Func}
 use Rattle.ll_tree.specs.Pieces.{Piece, written}

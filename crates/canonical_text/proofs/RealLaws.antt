@@ -1,8 +1,8 @@
 -- A token of a text that holds a name holds one byte at least.
-use Rattle.std.proofs.Common.{◌≡◌, ◌⊎◌, ◌<◌, ◌≤◌, ◌+◌, ◌*◌, ◌^◌, ℕ, zero, suc, Bool, true, false, leb, List, [], ◌∷◌, ◌++◌, length, refl, sym, ap, ◌∙◌, subst, inl, inr, arith, true≢false}
+use Rattle.std.proofs.Common.{◌≡◌, ◌<◌, ◌≤◌, ◌^◌, ℕ, zero, suc, true, leb, List, [], ◌∷◌, ◌++◌, refl, sym, ap, ◌∙◌, subst, inl, inr, arith}
 use Rattle.std.specs.Prelude.{if◌then◌else◌}
 use Rattle.std.specs.List.{list_all}
-use Rattle.std.specs.Char.{is_ascii_digit, digit_value}
+use Rattle.std.specs.Char.{is_ascii_digit}
 use Rattle.std.specs.Fmt.{decimal}
 use Rattle.std.proofs.lemmas.Bool.{leb-true}
 use Rattle.ll_token.specs.declared.token.TokenKind.{TokenKind}
@@ -11,10 +11,10 @@ use Rattle.ll_token.specs.Names.{IsPiece, StandsFor, Writes}
 use Rattle.ll_token.specs.Lexemes.{HoldsName, IsToken, has_name}
 use Rattle.ll_tree.specs.Pieces.{Piece}
 use Rattle.ll_grammar.specs.Tokens.{Tok, name_in, held_name}
-use Rattle.ll_grammar.specs.Spells.{Is, IsNameOf, IsLiteral, AreWords, AreFlags, AreMetadata, ArePassed}
+use Rattle.ll_grammar.specs.Spells.{Is, IsNameOf, IsLiteral, AreWords, AreMetadata, ArePassed}
 use Rattle.ll_grammar.proofs.NameLaws.{holds-name_in}
 use Rattle.ll_grammar.proofs.TokenLaws.{both_true}
-use Rattle.canonical_text.specs.Named.{AreBytes, IsName, IsNamed, AreNamed, IsReal, AreReal}
+use Rattle.canonical_text.specs.Named.{AreBytes, IsName, AreNamed, IsReal, AreReal}
 use Rattle.canonical_text.proofs.DecimalLaws.{decimal_writes}
 
 -- ---- bytes

@@ -1,5 +1,5 @@
 -- What the tokens of pieces are, piece by piece.
-use Rattle.std.proofs.Common.{◌≡◌, ℕ, List, [], ◌∷◌, ◌++◌, refl, sym, ap, ◌∙◌, subst}
+use Rattle.std.proofs.Common.{List, [], ◌∷◌, ◌++◌, refl, sym, subst}
 use Rattle.ll_tree.specs.Pieces.{Piece, Blank, LineEnd}
 use Rattle.ll_grammar.specs.Tokens.{Tok}
 use Rattle.canonical_text.specs.Shown.{Shows, ShowAll}

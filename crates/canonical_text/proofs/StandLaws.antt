@@ -1,5 +1,5 @@
 -- The pieces of a whole function stand well.
-use Rattle.std.proofs.Common.{◌≡◌, ◌⊎◌, ◌≤◌, ℕ, zero, suc, Bool, true, false, ◌&&◌, ◌||◌, List, [], ◌∷◌, ◌++◌, drop, Option, Some, None, refl, sym, ap, ◌∙◌, subst, inl, inr, true≢false, append_assoc, append-nil}
+use Rattle.std.proofs.Common.{◌≡◌, ℕ, Bool, true, false, ◌||◌, List, [], ◌∷◌, ◌++◌, drop, Option, Some, None, refl, sym, ap, ◌∙◌, subst, inl, inr, true≢false, append_assoc, append-nil}
 use Rattle.std.specs.Prelude.{codes, if◌then◌else◌}
 use Rattle.std.specs.List.{flat_map}
 use Rattle.std.specs.Fmt.{decimal}
@@ -20,13 +20,13 @@ use Rattle.ll_tree.specs.declared.op.Op.TheVariants as op
 use Rattle.ll_tree.specs.Pieces.{Piece, Word, Bits, Number, Local, Global, Label, Intrinsic, Mark, Blank, LineEnd, separated}
 use Rattle.ll_tree.specs.Text.{operand_piece, literal, flag, result_pieces, has_result, op_pieces, instr_pieces, phi_pieces, end_pieces, line, block_pieces, range_pieces, ret_piece, ret_width, param_pieces, ret_pieces, signature_pieces, header_pieces, pieces_of}
 use Rattle.ll_grammar.specs.Tokens.{Tok}
-use Rattle.ll_grammar.specs.Spells.{SpellsOp, SpellsResultOf, SpellsPhi, SpellsEnd, SpellPhis, SpellInstrs, SpellsBlock, SpellBlocks, SpellsEntryBlock, SpellBody, SpellsRange, SpellsAttributes, SpellsResult, is_some, SpellsParam, SpellParams, unnamed_with, count_unnamed, SpellsFunction}
+use Rattle.ll_grammar.specs.Spells.{SpellsOp, SpellsResultOf, SpellPhis, SpellInstrs, SpellsBlock, SpellBlocks, SpellBody, SpellsAttributes, SpellsResult, is_some, SpellsParam, SpellParams, unnamed_with, count_unnamed, SpellsFunction}
 use Rattle.ll_grammar.proofs.FlagLaws.{or_true}
 use Rattle.canonical_text.specs.Shown.{open_pieces}
 use Rattle.canonical_text.proofs.HeaderLaws.{entry_block}
-use Rattle.canonical_text.proofs.TokenLaws.{IsLexed, starts_apart, stands_alone, are_apart}
-use Rattle.canonical_text.proofs.ScanLaws.{is_calling, assumes, IsCalmAt, fresh_behind, Stand}
-use Rattle.canonical_text.proofs.LineLaws.{is_line_end, IsPlaced, IsLine, LeadsLine, leads_both, blank_line, word_line, bits_line, mark_line, comma_line, apart_line, literal_placed, flag_leads, op_line, result_line, phi_line, end_line}
+use Rattle.canonical_text.proofs.TokenLaws.{starts_apart, stands_alone, are_apart}
+use Rattle.canonical_text.proofs.ScanLaws.{assumes, IsCalmAt, fresh_behind, Stand}
+use Rattle.canonical_text.proofs.LineLaws.{is_line_end, IsLine, LeadsLine, blank_line, word_line, bits_line, mark_line, comma_line, apart_line, literal_placed, flag_leads, op_line, result_line, phi_line, end_line}
 
 -- ---- a line and what stands behind it
 

@@ -1,5 +1,5 @@
 -- Statements and blocks: what is shown spells them where something does.
-use Rattle.std.proofs.Common.{◌≡◌, ◌≤◌, ◌&&◌, ℕ, zero, suc, Bool, true, false, List, [], ◌∷◌, ◌++◌, refl, sym, ap, ◌∙◌, subst, inl, inr, true≢false, append_assoc, append-nil}
+use Rattle.std.proofs.Common.{◌≡◌, ◌≤◌, ◌&&◌, ℕ, false, List, [], ◌∷◌, ◌++◌, refl, sym, ap, ◌∙◌, subst, true≢false, append_assoc, append-nil}
 use Rattle.std.specs.Prelude.{codes, if◌then◌else◌}
 use Rattle.std.specs.List.{flat_map}
 use Rattle.ll_token.specs.declared.token.TokenKind.{TokenKind}
@@ -9,7 +9,6 @@ use Rattle.ll_tree.specs.declared.block.Phi.{Phi}
 use Rattle.ll_tree.specs.declared.block.PhiEntry.{PhiEntry}
 use Rattle.ll_tree.specs.declared.block.Instr.{Instr}
 use Rattle.ll_tree.specs.declared.block.Case.{Case}
-use Rattle.ll_tree.specs.declared.block.Operand.{Operand}
 use Rattle.ll_tree.specs.declared.block.End.{End}
 use Rattle.ll_tree.specs.declared.block.End.TheVariants as end
 use Rattle.ll_tree.specs.declared.op.Op.{Op}
@@ -17,8 +16,8 @@ use Rattle.ll_tree.specs.declared.op.Op.TheVariants as op
 use Rattle.ll_tree.specs.Pieces.{Piece, Word, Bits, Number, Local, Global, Label, Intrinsic, Mark, Blank, LineEnd, separated}
 use Rattle.ll_tree.specs.Text.{operand_piece, literal, target, result_pieces, has_result, op_pieces, instr_pieces, entry_pieces, phi_pieces, case_pieces, end_pieces, line, block_pieces}
 use Rattle.ll_grammar.specs.Tokens.{Tok, is_kind, starts_debug, debug_at}
-use Rattle.ll_grammar.specs.Spells.{Is, IsWord, IsMark, IsNameOf, IsType, IsTyped, IsTarget, IsNextTarget, IsNoGroup, SpellsOp, SpellsResultOf, SpellsInstr, SpellsEntry, SpellEntries, SpellsPhi, SpellsCase, SpellCases, SpellsEnd, IsStatement, SpellPhis, SpellInstrs, SpellsBlock, SpellBlocks}
-use Rattle.canonical_text.specs.Shown.{Shows, ShowAll}
+use Rattle.ll_grammar.specs.Spells.{Is, IsMark, IsNameOf, IsTyped, IsTarget, IsNextTarget, IsNoGroup, SpellsOp, SpellsResultOf, SpellsInstr, SpellsEntry, SpellEntries, SpellsPhi, SpellsCase, SpellCases, SpellsEnd, IsStatement, SpellPhis, SpellInstrs, SpellsBlock, SpellBlocks}
+use Rattle.canonical_text.specs.Shown.{ShowAll}
 use Rattle.canonical_text.proofs.ShownLaws.{split, spaced, blank, line_end, last}
 use Rattle.canonical_text.proofs.OperandLaws.{literal_again, operand_again, type_again, typed_again, target_again, next_target_again}
 use Rattle.canonical_text.proofs.OpLaws.{op_again, assume_calm}

@@ -1,25 +1,23 @@
 -- Each piece before those that may follow it is one token.
-use Rattle.std.proofs.Common.{◌≡◌, ◌≢◌, ◌⊎◌, ◌<◌, ◌≤◌, ◌+◌, ◌^◌, ℕ, zero, suc, Bool, true, false, cond, not, ◌&&◌, ◌||◌, eqb, ltb, List, [], ◌∷◌, ◌++◌, length, refl, sym, ap, ◌∙◌, subst, inl, inr, arith, true≢false, append-nil}
+use Rattle.std.proofs.Common.{◌≡◌, ◌<◌, ◌≤◌, ◌^◌, ℕ, suc, Bool, true, false, not, ◌&&◌, ◌||◌, eqb, List, [], ◌∷◌, ◌++◌, length, refl, sym, ap, ◌∙◌, inl, arith, true≢false}
 use Rattle.std.specs.Prelude.{codes}
-use Rattle.std.specs.List.{list_all, flat_map}
+use Rattle.std.specs.List.{list_all}
 use Rattle.std.specs.Char.{is_ascii_digit}
 use Rattle.std.specs.Fmt.{decimal}
-use Rattle.std.proofs.Math.Pow.{pow_mono}
 use Rattle.std.proofs.lemmas.Bool.{and_from, lt-ltb, ne_eqb}
 use Rattle.std.proofs.lemmas.List.Folds.{list_all-append}
 use Rattle.ll_token.specs.declared.token.TokenKind.{TokenKind}
 use Rattle.ll_token.specs.declared.token.TokenKind.TheVariants as kinds
 use Rattle.ll_token.specs.Bytes.{is_run_byte, is_mark, begins, is_number, are_digits}
-use Rattle.ll_token.specs.Names.{IsRun, Writes}
 use Rattle.ll_token.specs.Lexemes.{HoldsName, IsPlainRun, IsToken}
 use Rattle.ll_token.proofs.ListLaws.{all_weaker}
 use Rattle.ll_tree.specs.Naming.{is_run, name_text}
 use Rattle.ll_tree.specs.Words.{type_word}
-use Rattle.ll_tree.specs.Pieces.{Piece, Word, Bits, Number, Local, Global, Label, Intrinsic, Mark, Blank, LineEnd, piece_text, written}
+use Rattle.ll_tree.specs.Pieces.{Piece, Word, Bits, Number, Local, Global, Label, Intrinsic, Mark, Blank, LineEnd, written}
 use Rattle.ll_grammar.proofs.TokenLaws.{both_true}
 use Rattle.ll_grammar.proofs.FlagLaws.{not_true_is}
-use Rattle.canonical_text.specs.Named.{IsName, IsNamed}
-use Rattle.canonical_text.proofs.DecimalLaws.{IsWritten, decimal_writes}
+use Rattle.canonical_text.specs.Named.{IsName}
+use Rattle.canonical_text.proofs.DecimalLaws.{decimal_writes}
 use Rattle.canonical_text.proofs.NameLaws.{run_is, name_writes}
 
 -- ---- what may stand in a text

@@ -1,7 +1,6 @@
 -- What the grammar sees of the tokens of pieces.
-use Rattle.std.proofs.Common.{◌≡◌, ◌⊎◌, ◌<◌, ◌≤◌, ◌+◌, ◌-◌, ℕ, zero, suc, Bool, true, false, cond, not, ◌&&◌, ◌||◌, eqb, List, [], ◌∷◌, ◌++◌, length, take, drop, refl, sym, ap, ◌∙◌, subst, inl, inr, arith, append_assoc, append-nil, length-append, true≢false, eq-eqb}
+use Rattle.std.proofs.Common.{◌≡◌, ◌+◌, ◌-◌, ℕ, suc, Bool, true, false, cond, not, ◌&&◌, ◌||◌, eqb, List, [], ◌∷◌, ◌++◌, length, take, drop, refl, sym, ap, ◌∙◌, subst, inl, inr, arith, append_assoc, length-append, true≢false, eq-eqb}
 use Rattle.std.specs.Prelude.{codes}
-use Rattle.std.specs.List.{flat_map}
 use Rattle.std.specs.Str.{bytes_eq}
 use Rattle.std.specs.Fmt.{decimal}
 use Rattle.std.proofs.lemmas.List.{take_at, drop_at}
@@ -13,10 +12,10 @@ use Rattle.ll_token.specs.Scan.{text_of}
 use Rattle.ll_tree.specs.Naming.{name_text}
 use Rattle.ll_tree.specs.Words.{type_word}
 use Rattle.ll_tree.specs.Pieces.{Piece, Word, Bits, Number, Local, Global, Label, Intrinsic, Mark, Blank, LineEnd, written}
-use Rattle.ll_grammar.specs.Tokens.{Tok, name_in, held_name, is_kind, has_prefix, line_len, names_debug, is_word, is_before_call, begins_call, is_record, is_debug_line, begins_debug_line, seen, debug_at}
+use Rattle.ll_grammar.specs.Tokens.{name_in, held_name, is_kind, has_prefix, line_len, names_debug, is_word, is_before_call, begins_call, is_record, is_debug_line, begins_debug_line, seen, debug_at}
 use Rattle.ll_grammar.proofs.NameLaws.{holds-name_in}
 use Rattle.ll_grammar.proofs.FlagLaws.{and_false, neither}
-use Rattle.canonical_text.specs.Shown.{Shows, ShowAll}
+use Rattle.canonical_text.specs.Shown.{ShowAll}
 use Rattle.canonical_text.specs.Named.{AreNamed}
 use Rattle.canonical_text.proofs.TokenLaws.{called_name, ends_piece, local_holds, global_holds, label_holds, intrinsic_holds}
 use Rattle.canonical_text.proofs.ScanLaws.{token, tokens_of, is_calling, assumes, IsCalm, Stand}

@@ -1,6 +1,6 @@
 -- Which tokens the pieces of a text are. `Shows piece ts rest` says that the tokens `ts` are those of the piece and then
 -- `rest`. A blank and a line end have none.
-use Rattle.std.specs.Prelude.{◌≡◌, ℕ, false, List, [], ◌∷◌, ◌++◌, codes}
+use Rattle.std.specs.Prelude.{◌≡◌, false, List, [], ◌∷◌, ◌++◌, codes}
 use Rattle.std.specs.List.{flat_map}
 use Rattle.std.specs.Fmt.{decimal}
 use Rattle.ll_token.specs.declared.token.TokenKind.TheVariants as kinds
