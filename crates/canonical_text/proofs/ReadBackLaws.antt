@@ -39,12 +39,12 @@ spelled_back func given first_line before spells named =
 
 -- ---- of a text
 
-take_bytes : (n : ℕ) (bytes : List ℕ) → AreBytes bytes → AreBytes (take n bytes)
+pub take_bytes : (n : ℕ) (bytes : List ℕ) → AreBytes bytes → AreBytes (take n bytes)
 take_bytes zero bytes are = tt
 take_bytes (suc n) [] are = tt
 take_bytes (suc n) (byte ∷ bytes) (is, are) = (is, take_bytes n bytes are)
 
-drop_bytes : (n : ℕ) (bytes : List ℕ) → AreBytes bytes → AreBytes (drop n bytes)
+pub drop_bytes : (n : ℕ) (bytes : List ℕ) → AreBytes bytes → AreBytes (drop n bytes)
 drop_bytes zero bytes are = are
 drop_bytes (suc n) [] are = tt
 drop_bytes (suc n) (byte ∷ bytes) (is, are) = drop_bytes n bytes are
@@ -66,10 +66,15 @@ few_tokens : (from to : ℕ) (tokens : List Token) → AreInOrder from to tokens
 few_tokens from to [] order = omega (arith, order)
 few_tokens from to (t ∷ ts) (later, some, order) = omega (arith, later, some, few_tokens t.end to ts order)
 
-pub read_back : (text : List ℕ) (line again_line before again_before : ℕ) (tokens : List Token) (func : Func) → AreBytes text → length text < 2 ^ 64 → AreTokens text line tokens → SpellsFunction func (seen text before tokens)
-    → (again : List Token) × AreTokens (written (open_pieces func)) again_line again × SpellsFunction func (seen (written (open_pieces func)) again_before again)
-read_back text line again_line before again_before tokens func bytes few (read, rest, scans, last) spells =
+-- each name of a tree that the tokens of a text spell has a byte
+pub text_named : (text : List ℕ) (line before : ℕ) (tokens : List Token) (func : Func) → AreBytes text → length text < 2 ^ 64 → AreTokens text line tokens → SpellsFunction func (seen text before tokens) → AreNamed (open_pieces func)
+text_named text line before tokens func bytes few (read, rest, scans, last) spells =
     let real = seen_real text before tokens bytes (each_is text line [] text tokens read rest refl scans) in
     let fewer = few_tokens 0 (length text) tokens (in_order line [] text tokens read rest (length text) (omega arith) scans) in
     let count : length (seen text before tokens) < 2 ^ 64 = omega (arith, few, fewer, seen_length text before tokens) in
-    spelled_back func (seen text before tokens) again_line again_before spells (function_named func (seen text before tokens) count real spells)
+    function_named func (seen text before tokens) count real spells
+
+pub read_back : (text : List ℕ) (line again_line before again_before : ℕ) (tokens : List Token) (func : Func) → AreBytes text → length text < 2 ^ 64 → AreTokens text line tokens → SpellsFunction func (seen text before tokens)
+    → (again : List Token) × AreTokens (written (open_pieces func)) again_line again × SpellsFunction func (seen (written (open_pieces func)) again_before again)
+read_back text line again_line before again_before tokens func bytes few are spells =
+    spelled_back func (seen text before tokens) again_line again_before spells (text_named text line before tokens func bytes few are spells)

@@ -208,9 +208,19 @@ header_group : (F R Q behind : List Piece) (type name : Piece)
     ≡ Word (codes "define") ∷ ((Blank ∷ (F ++ (R ++ type ∷ Blank ∷ name ∷ Mark 40 ∷ (Q ++ Mark 41 ∷ Blank ∷ Mark 123 ∷ [])))) ++ LineEnd ∷ behind)
 header_group F R Q behind type name = simp append_assoc
 
-header_stands : (func : Func) (us : List Tok) (behind : List Piece) → SpellsFunction func us → Stand true behind → Stand true (header_pieces func ++ behind)
+-- the pieces of the first line, but for its end
+abbrev pub header_line_pieces : Func → List Piece
+header_line_pieces func =
+    Word (codes "define") ∷ Blank ∷ (flag func.ret_noundef (codes "noundef") ++ (range_pieces (ret_piece func.ret) (ret_width func.ret) func.ret_range
+    ++ ret_piece func.ret ∷ Blank ∷ Global func.name ∷ Mark 40 ∷ (separated param_pieces func.params ++ Mark 41 ∷ Blank ∷ Mark 123 ∷ [])))
+
+pub header_is_line : (func : Func) (behind : List Piece) → header_pieces func ++ behind ≡ header_line_pieces func ++ LineEnd ∷ behind
 unfolding header_pieces ret_pieces signature_pieces
-header_stands func us behind spells s =
+header_is_line func behind =
+    header_group (flag func.ret_noundef (codes "noundef")) (range_pieces (ret_piece func.ret) (ret_width func.ret) func.ret_range) (separated param_pieces func.params) behind (ret_piece func.ret) (Global func.name)
+
+pub header_line : (func : Func) (us : List Tok) → SpellsFunction func us → IsLine (header_line_pieces func)
+header_line func us spells =
     let F : List Piece = flag func.ret_noundef (codes "noundef") in
     let R : List Piece = range_pieces (ret_piece func.ret) (ret_width func.ret) func.ret_range in
     let Q : List Piece = separated param_pieces func.params in
@@ -219,9 +229,11 @@ header_stands func us behind spells s =
     let signature : List Piece = Blank ∷ Global func.name ∷ Mark 40 ∷ (Q ++ Mark 41 ∷ body) in
     let is_signature : IsLine signature = blank_line (Global func.name ∷ Mark 40 ∷ (Q ++ Mark 41 ∷ body)) (apart_line (Global func.name) (Mark 40 ∷ (Q ++ Mark 41 ∷ body)) (tt, refl) refl (mark_line 40 (Q ++ Mark 41 ∷ body) refl params)) in
     let typed : IsLine (F ++ (R ++ ret_piece func.ret ∷ signature)) = result_type_line func.ret func.ret_noundef func.ret_range spells.result spells.name signature spells.is_result refl is_signature in
-    let whole : IsLine (Word (codes "define") ∷ Blank ∷ (F ++ (R ++ ret_piece func.ret ∷ signature))) = word_line (codes "define") (F ++ (R ++ ret_piece func.ret ∷ signature)) (refl, refl) typed in
-    subst (Stand true) (sym (header_group F R Q behind (ret_piece func.ret) (Global func.name)))
-    (stand_from (Word (codes "define")) (Blank ∷ (F ++ (R ++ ret_piece func.ret ∷ signature))) behind whole refl (inl refl) s)
+    word_line (codes "define") (F ++ (R ++ ret_piece func.ret ∷ signature)) (refl, refl) typed
+
+header_stands : (func : Func) (us : List Tok) (behind : List Piece) → SpellsFunction func us → Stand true behind → Stand true (header_pieces func ++ behind)
+header_stands func us behind spells s =
+    subst (Stand true) (sym (header_is_line func behind)) (stand_from (Word (codes "define")) (drop 1 (header_line_pieces func)) behind (header_line func us spells) refl (inl refl) s)
 
 pub function_stands : (func : Func) (us : List Tok) → SpellsFunction func us → Stand true (pieces_of func)
 function_stands func us spells =

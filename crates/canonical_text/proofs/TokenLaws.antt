@@ -78,13 +78,13 @@ or_false_is false e = e
 digit_run : (b : ℕ) → is_ascii_digit b ≡ true → is_run_byte b ≡ true
 digit_run b is = rw is refl
 
-decimal_run : (n : ℕ) → n < 2 ^ 64 → list_all is_run_byte (decimal n) ≡ true
+pub decimal_run : (n : ℕ) → n < 2 ^ 64 → list_all is_run_byte (decimal n) ≡ true
 decimal_run n fits = all_weaker is_ascii_digit is_run_byte (decimal n) digit_run (decimal_writes n fits).all
 
 few_bits : (w : ℕ) → w ≤ 32 → w < 2 ^ 64
 few_bits w few = omega (arith, few)
 
-type_run : (w : ℕ) → w ≤ 32 → list_all is_run_byte (type_word w) ≡ true
+pub type_run : (w : ℕ) → w ≤ 32 → list_all is_run_byte (type_word w) ≡ true
 type_run w few = decimal_run w (few_bits w few)
 
 not_none : (xs : List ℕ) → eqb (suc (length xs)) 0 ≡ false
@@ -143,7 +143,7 @@ label_holds name after is = (name_text name, refl, name_writes name (58 ∷ afte
 abbrev pub called_name : List ℕ → ℕ → List ℕ
 called_name word w = codes "llvm." ++ (word ++ (codes "." ++ type_word w))
 
-called_run : (word : List ℕ) (w : ℕ) → IsLexed (Intrinsic word w) → list_all is_run_byte (called_name word w) ≡ true
+pub called_run : (word : List ℕ) (w : ℕ) → IsLexed (Intrinsic word w) → list_all is_run_byte (called_name word w) ≡ true
 called_run word w is = list_all-append is_run_byte word (codes "." ++ type_word w) ∙ and_from _ _ is.0 (type_run w is.1)
 
 pub intrinsic_holds : (word : List ℕ) (w : ℕ) (after : List ℕ) → IsLexed (Intrinsic word w) → EndsRun after → HoldsName kinds.Global (64 ∷ called_name word w) after (called_name word w)
