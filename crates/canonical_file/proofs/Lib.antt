@@ -1,0 +1,4 @@
+pub mod LineEndLaws
+pub mod BodyLaws
+pub mod DefineLaws
+pub mod FileLaws
