@@ -26,7 +26,7 @@ use Rattle.canonical_text.proofs.LineLaws.{IsLine}
 use Rattle.canonical_text.proofs.StandLaws.{header_line_pieces, header_is_line, header_line}
 use Rattle.ll_reader.specs.declared.finder.Section.{Section}
 use Rattle.ll_reader.specs.declared.finder.Found.TheVariants as found
-use Rattle.ll_reader.specs.FileLines.{lines, line_at, place, is_define, is_closing, has_prefix}
+use Rattle.ll_reader.specs.FileLines.{lines, nth_line, line_start, is_define, is_closing, has_prefix}
 use Rattle.ll_reader.specs.DefineLine.{IsNamed}
 use Rattle.ll_reader.specs.Functions.{BeginsFunction, HasName, Closes, section_of, Finds}
 use Rattle.ll_reader.specs.FileSpells.{section_text, FileSpells}
@@ -40,8 +40,8 @@ use Rattle.canonical_file.proofs.DefineLaws.{is_plain, is_clean, all_clean, plai
 abbrev file_lines : List ℕ → List (List ℕ) → List (List ℕ)
 file_lines header middle = header ∷ (middle ++ (125 ∷ 10 ∷ []) ∷ [])
 
-place_front : (front behind : List (List ℕ)) → place (front ++ behind) (length front) ≡ total front
-unfolding place
+place_front : (front behind : List (List ℕ)) → line_start (front ++ behind) (length front) ≡ total front
+unfolding line_start
 place_front [] [] = refl
 place_front [] (l ∷ behind) = refl
 place_front (l ∷ front) behind = ap (λ (n : ℕ). length l + n) (place_front front behind)
@@ -67,9 +67,9 @@ last_line (l ∷ middle) = last_line middle
 pub finds_in : (text name header : List ℕ) (middle : List (List ℕ)) → lines text ≡ file_lines header middle → AreInner middle → is_define header ≡ true → IsNamed header name
     → Finds text name (found.Closed (section_of (lines text) 0 (suc (length middle))))
 finds_in text name header middle e inner defines named =
-    let P : List (List ℕ) → Type 0 = λ ls. BeginsFunction ls 0 × IsNamed (line_at ls 0) name in
+    let P : List (List ℕ) → Type 0 = λ ls. BeginsFunction ls 0 × IsNamed (nth_line ls 0) name in
     let begins : P (lines text) = subst P (sym e) (record { there = omega arith; defines = defines; outside = λ d below. absurd (omega (arith, below)) }, named) in
-    let only : (other : ℕ) → HasName text name other → other ≡ 0 = λ other has. only_first other (subst (λ (ls : List (List ℕ)). is_define (line_at ls other) ≡ true) e has.0.defines) in
+    let only : (other : ℕ) → HasName text name other → other ≡ 0 = λ other has. only_first other (subst (λ (ls : List (List ℕ)). is_define (nth_line ls other) ≡ true) e has.0.defines) in
     let closes : Closes (lines text) 0 (suc (length middle)) = subst (λ (ls : List (List ℕ)). Closes ls 0 (suc (length middle))) (sym e) (record {
       behind = omega arith;
       there = omega (arith, length-append middle ((125 ∷ 10 ∷ []) ∷ []));
@@ -78,11 +78,11 @@ finds_in text name header middle e inner defines named =
     }) in
     (0, suc (length middle), (begins, only), closes, refl)
   where
-    only_first : (other : ℕ) → is_define (line_at (file_lines header middle) other) ≡ true → other ≡ 0
+    only_first : (other : ℕ) → is_define (nth_line (file_lines header middle) other) ≡ true → other ≡ 0
     only_first zero is = refl
     only_first (suc n) is = absurd (true≢false (sym is ∙ no_define_line middle n inner))
 
-    none_before : (c : ℕ) → 0 < c → c < suc (length middle) → is_closing (line_at (file_lines header middle) c) ≡ false
+    none_before : (c : ℕ) → 0 < c → c < suc (length middle) → is_closing (nth_line (file_lines header middle) c) ≡ false
     none_before zero after before = absurd (omega (arith, after))
     none_before (suc c) after before = no_closing_line middle c inner (omega (arith, before))
 
@@ -138,12 +138,12 @@ canonical_lines func middle is named body =
     ∙ lines_line H (B ++ 125 ∷ 10 ∷ []) (line_stays (header_line_pieces func) is named)
     ∙ ap (λ (ls : List (List ℕ)). (H ++ 10 ∷ []) ∷ ls) (body.2 (125 ∷ 10 ∷ []) ∙ ap (λ (ls : List (List ℕ)). middle ++ ls) end_lines)
 
-closing_place : (header : List ℕ) (middle : List (List ℕ)) → place (file_lines header middle) (suc (length middle)) ≡ length header + total middle
-unfolding place
+closing_place : (header : List ℕ) (middle : List (List ℕ)) → line_start (file_lines header middle) (suc (length middle)) ≡ length header + total middle
+unfolding line_start
 closing_place header middle = ap (λ (n : ℕ). length header + n) (place_front middle ((125 ∷ 10 ∷ []) ∷ []))
 
-start_place : (ls : List (List ℕ)) → place ls 0 ≡ 0
-unfolding place
+start_place : (ls : List (List ℕ)) → line_start ls 0 ≡ 0
+unfolding line_start
 start_place ls = refl
 
 section_is : (func : Func) (middle : List (List ℕ)) → lines (canonical func) ≡ file_lines (written (header_line_pieces func) ++ 10 ∷ []) middle → AreLines (written (flat_map block_pieces func.blocks)) middle
@@ -152,13 +152,13 @@ section_is func middle e body =
     let H : List ℕ = written (header_line_pieces func) in
     let B : List ℕ = written (flat_map block_pieces func.blocks) in
     let W : List ℕ = written (open_pieces func) in
-    let start : place (lines (canonical func)) 0 ≡ 0 = start_place (lines (canonical func)) in
-    let end : place (lines (canonical func)) (suc (length middle)) ≡ length (H ++ 10 ∷ []) + total middle = ap (λ (ls : List (List ℕ)). place ls (suc (length middle))) e ∙ closing_place (H ++ 10 ∷ []) middle in
+    let start : line_start (lines (canonical func)) 0 ≡ 0 = start_place (lines (canonical func)) in
+    let end : line_start (lines (canonical func)) (suc (length middle)) ≡ length (H ++ 10 ∷ []) + total middle = ap (λ (ls : List (List ℕ)). line_start ls (suc (length middle))) e ∙ closing_place (H ++ 10 ∷ []) middle in
     let long : length W ≡ length H + suc (length B) = ap (λ (x : List ℕ). length x) (open_text func) ∙ length-append H (10 ∷ B) in
-    let here : length W ≡ place (lines (canonical func)) (suc (length middle)) - 0 = omega (arith, end, long, length-append H (10 ∷ []), body.1) in
-    ap (λ (n : ℕ). slice_range (canonical func) n (place (lines (canonical func)) (suc (length middle)))) start
-    ∙ ap (λ (x : List ℕ). take (place (lines (canonical func)) (suc (length middle)) - 0) x) (whole_text func)
-    ∙ take_at W (125 ∷ 10 ∷ []) (place (lines (canonical func)) (suc (length middle)) - 0) here
+    let here : length W ≡ line_start (lines (canonical func)) (suc (length middle)) - 0 = omega (arith, end, long, length-append H (10 ∷ []), body.1) in
+    ap (λ (n : ℕ). slice_range (canonical func) n (line_start (lines (canonical func)) (suc (length middle)))) start
+    ∙ ap (λ (x : List ℕ). take (line_start (lines (canonical func)) (suc (length middle)) - 0) x) (whole_text func)
+    ∙ take_at W (125 ∷ 10 ∷ []) (line_start (lines (canonical func)) (suc (length middle)) - 0) here
 
 -- ---- a file that is read
 

@@ -19,7 +19,7 @@ use Rattle.canonical_text.specs.Named.{IsName, IsNamed, AreNamed}
 use Rattle.canonical_text.proofs.NameLaws.{name_writes}
 use Rattle.canonical_text.proofs.TokenLaws.{IsLexed, type_run, decimal_run, called_name, called_run}
 use Rattle.canonical_text.proofs.LineLaws.{is_line_end, IsPlaced, IsLine}
-use Rattle.ll_reader.specs.FileLines.{in_front, lines, place, is_define, is_closing, has_prefix}
+use Rattle.ll_reader.specs.FileLines.{onto_first, lines, line_start, is_define, is_closing, has_prefix}
 
 -- ---- bytes of a line
 
@@ -66,8 +66,8 @@ lines_line [] rest all = refl
 lines_line (byte ∷ bytes) rest all =
     let p = both_true (stays byte) (list_all stays bytes) all in
     let more = lines_line bytes rest p.1 in
-    ap (λ b. cond b ((10 ∷ []) ∷ lines (bytes ++ 10 ∷ rest)) (in_front byte (lines (bytes ++ 10 ∷ rest)))) (not_true_is (eqb byte 10) p.0)
-    ∙ ap (in_front byte) more
+    ap (λ b. cond b ((10 ∷ []) ∷ lines (bytes ++ 10 ∷ rest)) (onto_first byte (lines (bytes ++ 10 ∷ rest)))) (not_true_is (eqb byte 10) p.0)
+    ∙ ap (onto_first byte) more
 
 -- ---- lines in a row
 
