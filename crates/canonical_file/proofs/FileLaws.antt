@@ -16,11 +16,7 @@ use Rattle.canonical_text.specs.Named as names
 use Rattle.canonical_text.specs.Named.{AreBytes, IsName, AreNamed}
 use Rattle.canonical_text.proofs.ReadBackLaws.{take_bytes, drop_bytes, text_named, read_back}
 use Rattle.ll_token.specs.Scan.{AreTokens}
-use Rattle.ll_grammar.specs.Header.{function}
 use Rattle.ll_grammar.specs.Tokens.{seen}
-use Rattle.ll_grammar.proofs.DoneLaws.{when_done}
-use Rattle.ll_grammar.proofs.HeaderLaws.{function_sound}
-use Rattle.ll_grammar.proofs.HeaderReadLaws.{function_reads}
 use Rattle.std.proofs.lemmas.Bool.{and_from}
 use Rattle.canonical_text.proofs.LineLaws.{IsLine}
 use Rattle.canonical_text.proofs.StandLaws.{header_line_pieces, header_is_line, header_line}
@@ -173,11 +169,11 @@ short_drop (suc n) [] = omega arith
 short_drop (suc n) (b ∷ bytes) = omega (arith, short_drop n bytes)
 
 pub file_back : (text name : List ℕ) (func : Func) → AreBytes text → length text < 2 ^ 64 → FileSpells text name func → FileSpells (canonical func) func.name func
-file_back text name func bytes few (section, ts, (finds, tokens, are, same), (left, read)) =
+file_back text name func bytes few (section, ts, (finds, tokens, are, same), sentence) =
     let S : List ℕ = section_text text section in
     let within : length S < 2 ^ 64 = omega (arith, few, short_take (section.end - section.start) (drop section.start text), short_drop section.start text) in
     let real : AreBytes S = take_bytes (section.end - section.start) (drop section.start text) (drop_bytes section.start text bytes) in
-    let spells : SpellsFunction func (seen S 0 tokens) = subst (SpellsFunction func) same (when_done (function_sound ts) read).0 in
+    let spells : SpellsFunction func (seen S 0 tokens) = subst (SpellsFunction func) same sentence in
     let named : AreNamed (open_pieces func) = text_named S section.line 0 tokens func real within are spells in
     let parts = named_parts (header_pieces func) (flat_map block_pieces func.blocks) named in
     let line_named : AreNamed (header_line_pieces func) = (named_parts (header_line_pieces func) (LineEnd ∷ flat_map block_pieces func.blocks) (subst AreNamed (header_is_line func (flat_map block_pieces func.blocks)) named)).0 in
@@ -192,5 +188,5 @@ file_back text name func bytes few (section, ts, (finds, tokens, are, same), (le
       again_section,
       seen (section_text (canonical func) again_section) 0 again,
       (found, again, subst (λ (x : List ℕ). AreTokens x again_section.line again) (sym is_section) are_again, refl),
-      ([], ap (λ (x : List ℕ). function (seen x 0 again)) is_section ∙ function_reads func (seen (written (open_pieces func)) 0 again) spells_again),
+      subst (λ (x : List ℕ). SpellsFunction func (seen x 0 again)) (sym is_section) spells_again,
     )
