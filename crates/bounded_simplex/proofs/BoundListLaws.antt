@@ -26,7 +26,7 @@ same_side_refl : (side : Side) → is_same_side side side ≡ true
 same_side_refl Le = refl
 same_side_refl Ge = refl
 
-bounds_on_itself : (lit : Lit) → bounds_on lit.term lit.side lit ≡ true
+pub bounds_on_itself : (lit : Lit) → bounds_on lit.term lit.side lit ≡ true
 bounds_on_itself lit = ap (λ b. b && is_same_side lit.side lit.side) (same_term_refl lit.term) ∙ same_side_refl lit.side
 
 from_same_term : (a b : Term) → is_same_term a b ≡ true → a ≡ b

@@ -37,7 +37,7 @@ by_side_add : (side : Side) (by a b : ℤ) → by_side side (by *ℤ (a +ℤ b))
 by_side_add Le by a b = mul-add by a b
 by_side_add Ge by a b = omega (arith, ints, mul-add by a b)
 
-by_side_zero : (side : Side) (by : ℤ) → by_side side (by *ℤ pos 0) ≡ pos 0
+pub by_side_zero : (side : Side) (by : ℤ) → by_side side (by *ℤ pos 0) ≡ pos 0
 by_side_zero Le by = omega (arith, ints)
 by_side_zero Ge by = omega (arith, ints)
 

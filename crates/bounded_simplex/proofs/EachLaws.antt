@@ -1,8 +1,9 @@
 -- A property of each item of a list, one by one.
-use Rattle.std.proofs.Common.{◌≡◌, ◌≢◌, ◌⊎◌, ℕ, zero, suc, ◌+◌, ◌<◌, ◌≤◌, List, [], ◌∷◌, length, get_or, All, refl, sym, ap, ◌∙◌, subst, inl, inr, ⊎_elim, arith}
+use Rattle.std.proofs.Common.{◌≡◌, ◌≢◌, ◌⊎◌, ℕ, zero, suc, ◌+◌, ◌<◌, ◌≤◌, List, [], ◌∷◌, ◌++◌, length, get_or, ℤ, pos, All, refl, sym, ap, ◌∙◌, subst, inl, inr, ⊎_elim, arith}
 use Rattle.std.proofs.lemmas.Bool.{cases_lt, cases_eq}
-use Rattle.std.proofs.lemmas.List.{get_or_default}
+use Rattle.std.proofs.lemmas.List.{get_or_default, get_or_append_left, get_or_at}
 use Rattle.std.proofs.lemmas.List.Elements.{All-cons, All-nil}
+use Rattle.mix_system.specs.Row.{number_at}
 use Rattle.tableau_rows.specs.declared.equation.Equation.{Equation}
 use Rattle.bounded_simplex.specs.Point.{IsOutside}
 
@@ -30,3 +31,12 @@ outside_or_basic (row ∷ rows) column =
     ⊎_elim (λ (out : IsOutside rows column). inl (All-cons (λ (equation : Equation). equation.basic ≢ column) row rows other out))
     (λ (of : IsBasicOf rows column). inr (record { row = of.row; at = suc of.at; within = omega (arith, of.within); is = of.is; same = of.same }))
     (outside_or_basic rows column)) (cases_eq row.basic column)
+
+-- one more value, the low end of the next range
+pub low_more : (ranges : List (ℤ × ℤ)) (values more : List ℤ) (var : ℕ) (low : ℤ) → length values ≡ var → more ≡ values ++ low ∷ [] → low ≡ (get_or ranges var (pos 0, pos 0)).0
+    → ((k : ℕ) → k < var → number_at values k ≡ (get_or ranges k (pos 0, pos 0)).0) → (k : ℕ) → k < var + 1 → number_at more k ≡ (get_or ranges k (pos 0, pos 0)).0
+low_more ranges values more var low count added here before k within =
+    ⊎_elim (λ (lt : k < var). ap (λ vs. number_at vs k) added ∙ get_or_append_left values (low ∷ []) (pos 0) k (omega (arith, lt, count)) ∙ before k lt)
+    (λ (le : var ≤ k).
+    let same : k ≡ var = omega (arith, le, within) in
+    ap (λ vs. number_at vs k) added ∙ get_or_at values low [] (pos 0) k (omega (arith, same, count)) ∙ here ∙ ap (λ n. (get_or ranges n (pos 0, pos 0)).0) (sym same)) (cases_lt k var)

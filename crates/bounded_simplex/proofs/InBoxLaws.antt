@@ -28,7 +28,7 @@ says_itself lit term side bound of_term of_side of_bound = record {
 }
 
 -- the tighter bound is one of the two
-one_of_both : (side : Side) (end : Option ℤ) (bound c : ℤ) → tightened side end bound ≡ Some c → (bound ≡ c) ⊎ (end ≡ Some c)
+pub one_of_both : (side : Side) (end : Option ℤ) (bound c : ℤ) → tightened side end bound ≡ Some c → (bound ≡ c) ⊎ (end ≡ Some c)
 one_of_both side None bound c e = inl cc
 one_of_both Le (Some end) bound c e =
     let is : tighter Le end bound ≡ c = cc in

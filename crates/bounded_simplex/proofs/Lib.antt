@@ -5,8 +5,12 @@ pub mod FirstTableauLaws
 pub mod InBoxLaws
 pub mod PivotLaws
 pub mod RefutationLaws
+pub mod RowSumLaws
+pub mod SmallLaws
 pub mod TwoBoundLaws
 pub mod WithinLaws
+pub mod EndLaws
+pub mod LeafSizeLaws
 pub mod EachLaws
 pub mod PointLaws
 pub mod StepLaws

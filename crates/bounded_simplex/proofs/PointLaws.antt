@@ -74,13 +74,13 @@ total_times [] k f = omega (arith, ints)
 total_times (e ∷ es) k f =
     (λ i. swapped e.coeff k (f e.column) i +ℤ total_times es k f i) ∙ sym (mul-add k (e.coeff *ℤ f e.column) (total f es))
 
-others_skip : (b : ℕ) (e : Entry) (es : List Entry) → e.column ≡ b → others b (e ∷ es) ≡ others b es
+pub others_skip : (b : ℕ) (e : Entry) (es : List Entry) → e.column ≡ b → others b (e ∷ es) ≡ others b es
 others_skip b e es same = ap (λ t. cond t (e ∷ others b es) (others b es)) (is_basic e.column b same)
   where
     is_basic : (a b : ℕ) → a ≡ b → not (eqb a b) ≡ false
     is_basic a b h = grind (arith, nat_tests)
 
-others_keep : (b : ℕ) (e : Entry) (es : List Entry) → e.column ≢ b → others b (e ∷ es) ≡ e ∷ others b es
+pub others_keep : (b : ℕ) (e : Entry) (es : List Entry) → e.column ≢ b → others b (e ∷ es) ≡ e ∷ others b es
 others_keep b e es other = ap (λ t. cond t (e ∷ others b es) (others b es)) (is_other e.column b other)
   where
     is_other : (a b : ℕ) → a ≢ b → not (eqb a b) ≡ true

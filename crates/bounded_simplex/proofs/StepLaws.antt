@@ -5,6 +5,7 @@ use Rattle.std.proofs.lemmas.Int.{ints}
 use Rattle.std.proofs.lemmas.Bool.{cases_eq, false≢true}
 use Rattle.std.proofs.lemmas.Bool.Decides.{nat_tests}
 use Rattle.std.proofs.lemmas.List.{get_or-set_same, get_or-set_other, length-set}
+use Rattle.std.proofs.lemmas.List.Elements.{All-cons, All-filter}
 use Rattle.wx_num.specs.declared.excess.Excess.{Excess}
 use Rattle.mix_system.specs.declared.literal.Side.{Side}
 use Rattle.mix_system.specs.declared.literal.Side.TheVariants.{Le, Ge}
@@ -15,6 +16,7 @@ use Rattle.tableau_rows.specs.Equation.{total, coefficient}
 use Rattle.tableau_rows.specs.Turning.{others, turned_number}
 use Rattle.tableau_rows.proofs.TotalLaws.{coefficient_at}
 use Rattle.bounded_simplex.specs.Broken.{IsProduct, bound_of}
+use Rattle.bounded_simplex.specs.Combination.{basic_entry, in_order}
 use Rattle.bounded_simplex.specs.Event.{IsCompareStep}
 use Rattle.bounded_simplex.specs.InForce.{BoundChanges}
 use Rattle.bounded_simplex.specs.Point.{Admits, AreInBounds, numerator_of, Keeps}
@@ -25,6 +27,10 @@ use Rattle.bounded_simplex.proofs.PointLaws.{solved_split, others_apart, total_s
 -- where something was found, it isn't none
 pub no_none : {A E : Type 0} (r : Result (Option A) E) → r ≡ Ok None → IfOk r IsSome → ⊥
 no_none r is some = absurd (false≢true (rw is at some))
+
+-- what a clause says where the answer is true
+pub ok_true : {E : Type 0} (P : Type 0) (r : Result Bool E) (b : Bool) → r ≡ Ok b → b ≡ true → IfOk r (λ found. found ≡ true → P) → P
+ok_true {E} P r b is holds clause = (subst (λ (x : Result Bool E). IfOk x (λ found. found ≡ true → P)) (is ∙ ap Ok holds) clause) refl
 
 -- a term without bounds keeps them
 pub no_bounds : (f : Side → Option ℤ) (d n : ℤ) → f Ge ≡ None → f Le ≡ None → (side : Side) → Admits side (f side) d n
@@ -90,6 +96,14 @@ module _ (bounds : BoundChanges) (values : List ℤ) (row : Equation) (upwards :
       ⊎_elim (λ (same : e.column ≡ row.basic). absurd (other same))
       (λ (hindered : IsHindered bounds upwards (number_at values) e). hindered ∙ ap Some (sym (bounded_other e.column other))) (all k d within))
       (cases_eq e.column row.basic)
+
+  -- the same in the order in which they are put together
+  pub order_hindered : All (λ entry. (entry.column ≡ row.basic) ⊎ IsHindered bounds upwards (number_at values) entry) row.entries.items → All (IsHindered bounds upwards bounded_values) (in_order row)
+  order_hindered all =
+      let below : neg_ℤ row.denominator <ℤ pos 0 = omega (arith, ints, row.sound.positive) in
+      All-cons (IsHindered bounds upwards bounded_values) (basic_entry row) (others row.basic row.entries.items)
+      (ap (bound_on bounds row.basic) (hindering_below upwards (neg_ℤ row.denominator) below) ∙ bounded ∙ ap Some (sym (bounded_here row.basic refl)))
+      (All-filter (λ (entry : Entry). not (eqb entry.column row.basic)) (IsHindered bounds upwards bounded_values) row.entries.items (all_hindered all))
 
   total_is : total bounded_values row.entries.items ≡ numerator_of values row -ℤ row.denominator *ℤ bound
   total_is =

@@ -1,18 +1,22 @@
 -- Two bounds of one term that contradict each other.
 use Rattle.std.proofs.Common.{◌≡◌, ℕ, List, [], ◌∷◌, Some, length, ℤ, pos, neg_ℤ, ◌+ℤ◌, ◌*ℤ◌, ◌<ℤ◌, All, refl, sym, ap, ◌∙◌, subst, arith}
+use Rattle.std.specs.Prelude.{unsigned_abs}
 use Rattle.std.proofs.lemmas.Int.{ints}
 use Rattle.std.proofs.lemmas.List.Elements.{All-cons, All-nil}
 use Rattle.mix_system.specs.declared.literal.Term.{Term}
 use Rattle.mix_system.specs.declared.literal.Side.TheVariants.{Le, Ge}
 use Rattle.mix_system.specs.declared.literal.Lit.{Lit}
 use Rattle.mix_system.specs.declared.farkas.FarkasPart.{FarkasPart}
+use Rattle.mix_system.specs.Calm.{IsSmall}
 use Rattle.mix_system.specs.System.{Exists}
 use Rattle.mix_system.specs.Bounds.{IsIn}
 use Rattle.mix_system.specs.FarkasSum.{by_side, weight, bound_weight, FarkasRefutes}
 use Rattle.bounded_simplex.specs.InForce.{BoundChanges, in_force}
 use Rattle.bounded_simplex.specs.Terms.{times_in}
 use Rattle.bounded_simplex.specs.Refutation.{box_of, SaysInForce}
+use Rattle.bounded_simplex.specs.Combination.{IsRefutation}
 use Rattle.bounded_simplex.proofs.InBoxLaws.{in_box}
+use Rattle.bounded_simplex.proofs.LeafSizeLaws.{two_fit}
 
 module _ (bounds : BoundChanges) (term : Term) (low high : ℤ) (exists : Exists (length bounds.system.ranges) (length bounds.system.rows) term)
     (below : in_force bounds term Ge ≡ Some low) (above : in_force bounds term Le ≡ Some high) (p q : FarkasPart)
@@ -49,4 +53,21 @@ module _ (bounds : BoundChanges) (term : Term) (low high : ℤ) (exists : Exists
     in_box = All-cons (λ (part : FarkasPart). IsIn (box_of bounds) part.lit) p (q ∷ []) p_in (All-cons (λ (part : FarkasPart). IsIn (box_of bounds) part.lit) q [] q_in (All-nil (λ (part : FarkasPart). IsIn (box_of bounds) part.lit)));
     vanishes = λ var. omega (arith, ints, p_weight var, q_weight var);
     contradictory = omega (arith, ints, p_bound, q_bound, less);
+  }
+
+  exists_p : Exists (length bounds.system.ranges) (length bounds.system.rows) p.lit.term
+  exists_p = subst (λ (lit : Lit). Exists (length bounds.system.ranges) (length bounds.system.rows) lit.term) (sym p_lit) exists
+
+  exists_q : Exists (length bounds.system.ranges) (length bounds.system.rows) q.lit.term
+  exists_q = subst (λ (lit : Lit). Exists (length bounds.system.ranges) (length bounds.system.rows) lit.term) (sym q_lit) exists
+
+  pub two_refutation : high <ℤ low → IsRefutation bounds (p ∷ q ∷ [])
+  two_refutation less = record {
+    refutes = two_refute less;
+    known = All-cons (λ (part : FarkasPart). Exists (length bounds.system.ranges) (length bounds.system.rows) part.lit.term) p (q ∷ []) exists_p
+        (All-cons (λ (part : FarkasPart). Exists (length bounds.system.ranges) (length bounds.system.rows) part.lit.term) q [] exists_q
+        (All-nil (λ (part : FarkasPart). Exists (length bounds.system.ranges) (length bounds.system.rows) part.lit.term)));
+    says = two_say;
+    fit = λ calm. two_fit bounds.system calm.formed calm.system p q exists_p exists_q (ap unsigned_abs p_once) (ap unsigned_abs q_once)
+        (subst (λ (lit : Lit). IsSmall lit.bound) (sym p_lit) (calm.small term Ge low exists below)) (subst (λ (lit : Lit). IsSmall lit.bound) (sym q_lit) (calm.small term Le high exists above));
   }

@@ -8,6 +8,7 @@ use Rattle.mix_system.specs.declared.literal.Term.{Term}
 use Rattle.mix_system.specs.Row.{number_at}
 use Rattle.tableau_rows.specs.declared.equation.Equation.{Equation}
 use Rattle.tableau_rows.specs.Turning.{others, IsSumStep}
+use Rattle.bounded_simplex.specs.Combination.{IsCombineStep}
 use Rattle.bounded_simplex.specs.InForce.{BoundChanges, in_force}
 use Rattle.bounded_simplex.specs.Pivot.{IsPivotExcess}
 use Rattle.bounded_simplex.specs.Refutation.{bound_on}
@@ -31,7 +32,8 @@ IsFormedAt bounds values equation (Value basic) excess =
     (basic ≡ basic_term bounds equation) × IsSumStep (number_at values) (others equation.basic equation.entries.items) excess
 IsFormedAt bounds values equation (Compare basic bound) excess =
     (basic ≡ basic_term bounds equation) × IsCompareStep bounds equation bound excess
-IsFormedAt bounds values equation (Combine basic) excess = basic ≡ basic_term bounds equation
+IsFormedAt bounds values equation (Combine basic) excess =
+    (basic ≡ basic_term bounds equation) × IsCombineStep bounds equation excess
 IsFormedAt bounds values equation (Pivot basic entering changed) excess = ⊥
 
 pub record IsOfEquation (bounds : BoundChanges) (rows : List Equation) (values : List ℤ) (fault : TableauExcess) : Type 0 where

@@ -9,5 +9,6 @@ pub mod Point
 pub mod Refutation
 pub mod Settled
 pub mod StoredBounds
+pub mod Sums
 pub mod TableauOf
 pub mod Terms

@@ -1,13 +1,14 @@
 -- The point that a tableau and the values of the columns outside its basis give, and when it lies inside the bounds.
 use Rattle.std.specs.Prelude.{◌≡◌, ◌≢◌, ℕ, ◌<◌, ℤ, pos, ◌*ℤ◌, ◌≤ℤ◌, List, length, slice_index_or, Option, None, Some, All}
 use Rattle.mix_system.specs.declared.literal.Side.{Side}
+use Rattle.mix_system.specs.declared.literal.Side.TheVariants.{Le, Ge}
 use Rattle.mix_system.specs.Lit.{IsWithin}
 use Rattle.mix_system.specs.Row.{number_at}
 use Rattle.mix_system.specs.System.{System}
 use Rattle.tableau_rows.specs.declared.equation.Equation.{Equation}
 use Rattle.tableau_rows.specs.Equation.{total}
 use Rattle.tableau_rows.specs.Turning.{others}
-use Rattle.bounded_simplex.specs.InForce.{BoundChanges}
+use Rattle.bounded_simplex.specs.InForce.{BoundChanges, Contradict}
 use Rattle.bounded_simplex.specs.Refutation.{columns_of, bound_on}
 use Rattle.bounded_simplex.specs.TableauOf.{Solves}
 
@@ -21,6 +22,10 @@ abbrev pub AreInBounds : BoundChanges → List ℤ → Type 0
 AreInBounds bounds values =
     (column : ℕ) (side : Side) → column < length values
     → Admits side (bound_on bounds column side) (pos 1) (number_at values column)
+
+-- no column has a lower bound in force above its upper one
+abbrev pub AreApart : BoundChanges → Type 0
+AreApart bounds = (column : ℕ) → column < columns_of bounds.system → ¬ Contradict (bound_on bounds column Ge) (bound_on bounds column Le)
 
 -- the numerator of an equation's basic column, where each other one has a value
 abbrev pub numerator_of : List ℤ → Equation → ℤ

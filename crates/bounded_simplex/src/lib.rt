@@ -13,6 +13,7 @@ mod ratio;
 mod refutation;
 mod settle;
 mod simplex;
+mod sums;
 mod tableau;
 #[cfg(test)]
 mod tests;
@@ -23,6 +24,7 @@ pub use check::Check;
 pub use excess::{Place, TableauExcess};
 pub use laws::equations_cancel_out;
 pub use ratio::Ratio;
-pub use refutation::{contradiction, refute};
+pub use refutation::{contradiction, first_contradiction, refute};
 pub use simplex::Simplex;
+pub use sums::refute_sums;
 pub use tableau::{PivotExcess, Tableau};

@@ -6,14 +6,14 @@ ghost use Rattle.tableau_rows.specs.declared.equation.Equation.{Equation as AnEq
 ghost use Rattle.bounded_simplex.specs.Answer.{Answers, IsSpent, is_point};
 ghost use Rattle.bounded_simplex.specs.Broken.{IsBroken, side_of};
 ghost use Rattle.bounded_simplex.specs.Event.{IsEvent, IsOfBounded};
-ghost use Rattle.bounded_simplex.specs.Point.{AreInBounds};
+ghost use Rattle.bounded_simplex.specs.Point.{AreApart, AreInBounds};
 ghost use Rattle.bounded_simplex.specs.Refutation.{columns_of, IsHindered};
 
 use crate::broken::{Broken, first_broken};
 use crate::entering::entering;
 use crate::refutation::first_contradiction;
 use crate::settle::{put_at_bound, settle};
-use crate::{Check, PivotExcess, Place, Simplex, TableauExcess, refute};
+use crate::{Check, PivotExcess, Place, Simplex, Tableau, TableauExcess, refute};
 use mix_system::{Side, Tally, Work};
 use std::alloc::Global;
 use wx_base::NoMemory;
@@ -49,10 +49,47 @@ impl Simplex<'_> {
         self.mend(alloc)
     }
 
-    // Mends broken basic columns by pivots, the least column first.
+    // Mends broken basic columns by pivots. Where a number leaves 128 bits it begins once more, from
+    // the first basis.
     fn mend(&mut self, alloc: Global) -> Result<Check, NoMemory>
+        requires apart { AreApart self.old.bounds }
         requires in_bounds { AreInBounds self.old.bounds self.old.values.items }
         requires none_made { self.old.made ≡ 0 }
+        requires no_point { self.old.has_point ≡ false }
+        ensures bounds { self.new.bounds ≡ self.old.bounds }
+        ensures answer { IfOk result
+            (Answers self.new.bounds self.new.tableau.rows.items self.new.values.items
+            self.new.made) }
+        ensures made { self.new.made ≤ pivot_bound self.new.bounds.system }
+        ensures point { IfOk result (λ check. self.new.has_point ≡ is_point check) }
+        ensures not_spent { IfOk result (λ check. ¬ IsSpent check) }
+    {
+        match self.pivots(alloc)? {
+            Check::Excess(_) => {
+                self.start_anew(alloc)?;
+                self.pivots(alloc)
+            }
+            check => Ok(check),
+        }
+    }
+
+    // Makes the basis the rows again. The bounds and the count of pivots stay.
+    fn start_anew(&mut self, alloc: Global) -> Result<(), NoMemory>
+        requires apart { AreApart self.old.bounds }
+        ensures bounds { self.new.bounds ≡ self.old.bounds }
+        ensures made { self.new.made ≡ self.old.made }
+        ensures has_point { self.new.has_point ≡ self.old.has_point }
+        ensures in_bounds { OnOk result (AreInBounds self.new.bounds self.new.values.items) }
+    {
+        self.tableau = Tableau::new(alloc, self.bounds.system())?;
+        settle(&self.bounds, &mut self.values);
+        Ok(())
+    }
+
+    // Pivots until no basic column is broken, the least column first.
+    fn pivots(&mut self, alloc: Global) -> Result<Check, NoMemory>
+        requires in_bounds { AreInBounds self.old.bounds self.old.values.items }
+        requires made { self.old.made ≤ pivot_bound self.old.bounds.system }
         requires no_point { self.old.has_point ≡ false }
         ensures bounds { self.new.bounds ≡ self.old.bounds }
         ensures answer { IfOk result

@@ -1,13 +1,13 @@
-ghost use Rattle.std.specs.Prelude.{◌≡◌, ◌≢◌, ℕ, ◌+◌, ◌<◌, ℤ, pos, ◌+ℤ◌, ◌<ℤ◌, ◌≤ℤ◌, not, None, [], ◌∷◌, ◌↔◌, length, All, IfOk, IfErr, IfSome, IfNone, IsSome};
+ghost use Rattle.std.specs.Prelude.{◌≡◌, ◌≢◌, ℕ, ◌+◌, ◌<◌, ℤ, pos, ◌+ℤ◌, ◌<ℤ◌, ◌≤ℤ◌, not, None, [], ◌∷◌, ◌↔◌, length, All, IfOk, IfErr, IfSome, IfNone, IsSome, IsTrue, IsFalse};
 ghost use Rattle.wx_num.specs.Excess.{Overflows};
 ghost use Rattle.mix_system.specs.System.{Exists};
-ghost use Rattle.mix_system.specs.FarkasSum.{FarkasRefutes, leaf_steps};
-ghost use Rattle.bounded_simplex.specs.Combination.{Fits};
+ghost use Rattle.bounded_simplex.specs.Combination.{basic_entry, in_order, AreWorked, IsPut, IsPutStep, IsCombineStep, IsRefutation};
 ghost use Rattle.tableau_rows.specs.Equation.{total};
+ghost use Rattle.bounded_simplex.specs.Point.{AreApart};
 ghost use Rattle.bounded_simplex.specs.InForce.{in_force, Contradict};
 ghost use Rattle.bounded_simplex.specs.Terms.{times_in_column};
 ghost use Rattle.tableau_rows.specs.Turning.{turned_number};
-ghost use Rattle.bounded_simplex.specs.Refutation.{box_of, columns_of, bound_on, hindering, IsHindered, IsPartOf, SaysInForce};
+ghost use Rattle.bounded_simplex.specs.Refutation.{columns_of, bound_on, hindering, IsHindered, IsPartOf, SaysInForce};
 
 use crate::Bounds;
 use crate::combination::Combination;
@@ -15,10 +15,10 @@ use mix_system::{Farkas, FarkasPart, FarkasParts, Lit, Side, Term};
 use std::alloc::Global;
 use tableau_rows::{Entry, Equation};
 use wx_base::NoMemory;
-use wx_num::{Excess, Num};
+use wx_num::{Excess, Num, NumOp};
 
 /// The combination of bounds in force by which an equation refutes them: each column is counted as
-/// often as the equation takes it, or, downwards, with the other sign.
+/// often as the equation takes it, or, downwards, with the other sign, the basic column first.
 ///
 /// `None` where a bound is wanting, or where these bounds don't contradict each other. So there is
 /// one wherever each column stands at the bound that hinders it and these numbers, as often as the
@@ -31,29 +31,32 @@ pub fn refute(
 ) -> Result<Result<Option<Farkas>, Excess>, NoMemory>
     requires within { All
         (λ entry. entry.column < columns_of bounds.now.system) equation.now.entries.items }
+    requires basic { equation.now.basic < columns_of bounds.now.system }
     requires cancels { (var : ℕ)
         → total (times_in_column bounds.now.system var) equation.now.entries.items ≡ pos 0 }
-    ensures refutes { IfOk result (λ found. IfOk found (λ farkas. IfSome farkas
-        (λ f. FarkasRefutes bounds.now.system.rows (box_of bounds.now) f.parts))) }
-    ensures says { IfOk result (λ found. IfOk found (λ farkas. IfSome farkas
-        (λ f. All (λ part. SaysInForce bounds.now part.lit) f.parts))) }
-    ensures fit { IfOk result (λ found. IfOk found (λ farkas. IfSome farkas
-        (λ f. All Fits (leaf_steps bounds.now.system.rows f.parts)))) }
+    ensures refutation { IfOk result (λ found. IfOk found (λ farkas. IfSome farkas
+        (λ f. IsRefutation bounds.now f.parts))) }
     ensures found { (number : ℕ → ℤ)
-        → All (IsHindered bounds.now upwards number) equation.now.entries.items
+        → All (IsHindered bounds.now upwards number) (in_order equation.now)
         → turned_number (not upwards) (total number equation.now.entries.items) <ℤ pos 0
         → IfOk result (λ found. IfOk found IsSome) }
+    ensures step { IfOk result (λ found. IfErr found (IsCombineStep bounds.now equation.now)) }
     ensures overflows { IfOk result (λ found. IfErr found Overflows) }
 {
     let mut combination = Combination::new(alloc, bounds.system().vars())?;
+    let own = own_entry(equation);
+    match put_entry(&mut combination, bounds, own, upwards)? {
+        Ok(true) => {}
+        Ok(false) => return Ok(Ok(None)),
+        Err(excess) => return Ok(Err(excess)),
+    }
     for entry in &equation.entries {
-        let part = match part_of(bounds, *entry, upwards) {
-            Ok(Some(part)) => part,
-            Ok(None) => return Ok(Ok(None)),
-            Err(excess) => return Ok(Err(excess)),
-        };
-        match combination.add(bounds, part)? {
-            Ok(()) => {}
+        if entry.column == equation.basic {
+            continue;
+        }
+        match put_entry(&mut combination, bounds, *entry, upwards)? {
+            Ok(true) => {}
+            Ok(false) => return Ok(Ok(None)),
             Err(excess) => return Ok(Err(excess)),
         }
     }
@@ -65,6 +68,52 @@ pub fn refute(
     Ok(Ok(None))
 }
 
+// The entry of an equation's basic column.
+fn own_entry(equation: &Equation) -> Entry
+    ensures is { result ≡ basic_entry equation.now }
+    ensures nonzero { result.coeff ≢ pos 0 }
+{
+    Entry {
+        column: equation.basic,
+        coeff: -equation.denominator,
+    }
+}
+
+// Puts the part of an entry behind the others; false where the bound that it wants isn't there.
+fn put_entry(
+    combination: &mut Combination,
+    bounds: &Bounds<'_>,
+    entry: Entry,
+    upwards: bool,
+) -> Result<Result<bool, Excess>, NoMemory>
+    requires within { entry.column < columns_of bounds.now.system }
+    requires nonzero { entry.coeff ≢ pos 0 }
+    requires count { length combination.old.sums.items ≡ length bounds.now.system.ranges }
+    requires worked { AreWorked bounds.now.system.rows combination.old.parts
+        combination.old.sums.items combination.old.constant }
+    ensures count { length combination.new.sums.items ≡ length combination.old.sums.items }
+    ensures put { IfOk result (λ found. IfOk found (λ yes. IsTrue yes
+        → IsPut bounds.now upwards entry combination.old.parts combination.new.parts)) }
+    ensures worked { IfOk result (λ found. IfOk found (λ yes. IsTrue yes
+        → AreWorked bounds.now.system.rows combination.new.parts
+        combination.new.sums.items combination.new.constant)) }
+    ensures wanting { IfOk result (λ found. IfOk found (λ yes. IsFalse yes
+        → bound_on bounds.now entry.column (hindering upwards entry.coeff) ≡ None)) }
+    ensures step { IfOk result (λ found. IfErr found
+        (IsPutStep bounds.now upwards entry combination.old.parts)) }
+    ensures overflows { IfOk result (λ found. IfErr found Overflows) }
+{
+    let part = match part_of(bounds, entry, upwards) {
+        Ok(Some(part)) => part,
+        Ok(None) => return Ok(Ok(false)),
+        Err(excess) => return Ok(Err(excess)),
+    };
+    match combination.add(bounds, part)? {
+        Ok(()) => Ok(Ok(true)),
+        Err(excess) => Ok(Err(excess)),
+    }
+}
+
 /// The two bounds of a term, each once, where they contradict each other; else `None`.
 pub fn contradiction(
     alloc: Global,
@@ -72,10 +121,8 @@ pub fn contradiction(
     term: Term,
 ) -> Result<Option<Farkas>, NoMemory>
     requires { Exists (length bounds.now.system.ranges) (length bounds.now.system.rows) term }
-    ensures refutes { IfOk result (λ found. IfSome found
-        (λ f. FarkasRefutes bounds.now.system.rows (box_of bounds.now) f.parts)) }
-    ensures says { IfOk result (λ found. IfSome found
-        (λ f. All (λ part. SaysInForce bounds.now part.lit) f.parts)) }
+    ensures refutation { IfOk result (λ found. IfSome found
+        (λ f. IsRefutation bounds.now f.parts)) }
     ensures none { IfOk result (λ found. IsSome found
         ↔ Contradict (in_force bounds.now term Side.Ge) (in_force bounds.now term Side.Le)) }
 {
@@ -111,17 +158,10 @@ pub fn contradiction(
 
 /// The two bounds of the first term whose bounds contradict each other, `None` where there is no
 /// such term.
-pub(crate) fn first_contradiction(
-    alloc: Global,
-    bounds: &Bounds<'_>,
-) -> Result<Option<Farkas>, NoMemory>
-    ensures refutes { IfOk result (λ found. IfSome found
-        (λ f. FarkasRefutes bounds.now.system.rows (box_of bounds.now) f.parts)) }
-    ensures says { IfOk result (λ found. IfSome found
-        (λ f. All (λ part. SaysInForce bounds.now part.lit) f.parts)) }
-    ensures none { IfOk result (λ found. IfNone found ((column : ℕ)
-        → column < columns_of bounds.now.system
-        → ¬ Contradict (bound_on bounds.now column Side.Ge) (bound_on bounds.now column Side.Le))) }
+pub fn first_contradiction(alloc: Global, bounds: &Bounds<'_>) -> Result<Option<Farkas>, NoMemory>
+    ensures refutation { IfOk result (λ found. IfSome found
+        (λ f. IsRefutation bounds.now f.parts)) }
+    ensures none { IfOk result (λ found. IfNone found (AreApart bounds.now)) }
 {
     for column in 0..bounds.columns() {
         match contradiction(alloc, bounds, bounds.term_at(column))? {
@@ -149,6 +189,8 @@ fn part_of(bounds: &Bounds<'_>, entry: Entry, upwards: bool) -> Result<Option<Fa
     ensures part { IfOk result (λ found. IfSome found (IsPartOf bounds.now upwards entry)) }
     ensures none { IfOk result (λ found. IfNone found
         (bound_on bounds.now entry.column (hindering upwards entry.coeff) ≡ None)) }
+    ensures step { IfErr result (λ excess.
+        excess ≡ record { op = NumOp.Minus; x = pos 0; y = entry.coeff }) }
     ensures overflows { IfErr result Overflows }
 {
     let term = bounds.term_at(entry.column);
@@ -180,40 +222,5 @@ fn part_at(bounds: &Bounds<'_>, term: Term, side: Side, by: i128) -> Option<Fark
             by,
         }),
         None => None,
-    }
-}
-
-#[cfg(test)]
-mod tests {
-    use super::*;
-    use mix_system::System;
-    use std::test::Fail;
-
-    // x in 0 .. 5 with x <= -1.
-    #[test]
-    fn contradicting_bounds_refute(rt: HostRuntime) -> Result<(), Fail> {
-        let alloc = rt.alloc();
-        let mut system = System::new(alloc);
-        system.add_var(0, 5)?;
-        let mut bounds = Bounds::new(alloc, &system, 1)?;
-        let x = Term::Var(0);
-        let before = contradiction(alloc, &bounds, x)?.is_some();
-        let at_most = Lit {
-            term: x,
-            side: Side::Le,
-            bound: -1,
-        };
-        let put = bounds.assert_bound(&at_most);
-        let farkas = contradiction(alloc, &bounds, x)?.ok_or("none")?;
-        let mut parts = Vec::new(alloc);
-        for part in farkas.parts.items() {
-            parts.push((part.lit.side, part.lit.bound, part.by))?;
-        }
-        assert_eq!(rt; (before, put), (false, false));
-        assert_eq!(rt;
-            parts.as_slice(),
-            [(Side::Ge, 0, 1), (Side::Le, -1, 1)].as_slice()
-        );
-        Ok(())
     }
 }

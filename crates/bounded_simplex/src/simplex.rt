@@ -3,7 +3,9 @@ ghost use Rattle.mix_system.specs.Row.{number_at};
 ghost use Rattle.mix_system.specs.System.{Exists};
 ghost use Rattle.bounded_simplex.specs.InForce.{in_force, Contradict};
 ghost use Rattle.bounded_simplex.specs.Refutation.{columns_of, bound_on};
-ghost use Rattle.bounded_simplex.specs.TableauOf.{TableauOf};
+ghost use Rattle.tableau_rows.specs.declared.equation.Equation.{Equation as AnEquation};
+ghost use Rattle.bounded_simplex.specs.Settled.{AreLow};
+ghost use Rattle.bounded_simplex.specs.TableauOf.{TableauOf, IsOfRow};
 
 use crate::{Bounds, Mark, Tableau};
 use mix_system::{Lit, Side, System, Term};
@@ -27,13 +29,18 @@ pub struct Simplex<'a> {
 }
 
 impl<'a> Simplex<'a> {
-    /// The simplex of a system, with room for so many changes of bounds, and none made.
+    /// The simplex of a system, with room for so many changes of bounds, and none made. Its basis
+    /// is the rows, and each variable stands at the low end of its range.
     pub fn new(alloc: Global, system: &'a System, room: u32) -> Result<Simplex<'a>, NoMemory>
         ensures system { IfOk result (λ simplex. simplex.bounds.system ≡ system.entry.now) }
         ensures changes { IfOk result (λ simplex. simplex.bounds.changes ≡ []) }
         ensures room { IfOk result (λ simplex. simplex.bounds.room ≡ room) }
         ensures made { IfOk result (λ simplex. simplex.made ≡ 0) }
         ensures no_point { IfOk result (λ simplex. simplex.has_point ≡ false) }
+        ensures basis { IfOk result (λ simplex. (k : ℕ) (d : AnEquation)
+            → k < length simplex.tableau.rows.items
+            → IsOfRow system.entry.now k (slice_index_or simplex.tableau.rows.items k d)) }
+        ensures values { IfOk result (λ simplex. AreLow system.entry.now simplex.values.items) }
     {
         let bounds = Bounds::new(alloc, system, room)?;
         let tableau = Tableau::new(alloc, system)?;
@@ -126,6 +133,7 @@ impl<'a> Simplex<'a> {
 // The least value of each variable's range, and 0 for each row.
 fn first_values(alloc: Global, system: &System) -> Result<Vec<i128>, NoMemory>
     ensures count { IfOk result (λ values. length values.items ≡ columns_of system.now) }
+    ensures low { IfOk result (λ values. AreLow system.now values.items) }
 {
     let columns = system.vars() as usize + system.rows() as usize;
     let mut values = Vec::with_capacity(alloc, columns)?;

@@ -1,214 +1,180 @@
 //! Small systems with answers that were worked out by hand.
 
-ghost use Rattle.std.specs.Prelude.{◌≡◌, ◌<◌, ◌^◌, pos, [], length, IsTrue, IfOk};
-ghost use Rattle.mix_system.specs.System.{Exists, IsRange};
+ghost use Rattle.std.specs.Prelude.{◌≡◌, IfOk};
 
-use crate::{Check, Ratio, Simplex, TableauExcess};
+use crate::{Check, Ratio, Simplex};
 use mix_system::{Lit, Part, Side, System, Tally, Term};
 use std::alloc::Global;
-use std::fmt::Write;
 use std::test::Fail;
 
-// A literal as it is written, `v0>=1` or `r0<=5`.
-fn lit_of(word: &str) -> Option<Lit> {
-    let (side, term, bound) = match word.split_once(">=") {
-        Some((term, bound)) => (Side::Ge, term, bound),
-        None => {
-            let (term, bound) = word.split_once("<=")?;
-            (Side::Le, term, bound)
-        }
-    };
-    let term = match term.strip_prefix('v') {
-        Some(var) => Term::Var(var.parse().ok()?),
-        None => Term::Row(term.strip_prefix('r')?.parse().ok()?),
-    };
-    let bound = bound.parse().ok()?;
-    Some(Lit { term, side, bound })
-}
+// A column, whether the bound is a lower one, and the bound; another number of a column has the
+// bounds before it checked and given back.
+type Step = (u32, bool, i128);
 
-fn exists(simplex: &Simplex<'_>, term: Term) -> bool
-    ensures { IsTrue result
-        → Exists (length simplex.now.bounds.system.ranges)
-        (length simplex.now.bounds.system.rows) term }
-{
-    match term {
-        Term::Var(var) => var < simplex.system().vars(),
-        Term::Row(row) => row < simplex.system().rows(),
-    }
-}
+const CHECK: Step = (u32::MAX, false, 0);
 
-// Puts the literals of a line, `None` where one isn't of the system, or there is no more room.
-fn put_all(simplex: &mut Simplex<'_>, line: &str) -> Option<()> {
-    for word in line.split_whitespace() {
-        let lit = lit_of(word)?;
-        if !exists(simplex, lit.term) || simplex.spare() == 0 {
-            return None;
-        }
-        simplex.assert_bound(&lit);
-    }
-    Some(())
-}
-
-fn written(alloc: Global, check: &Check) -> Result<String, Fail> {
-    let mut text = String::new(alloc);
+// What a check answers: 0 for a point, how many bounds refute, a number below 0, or the first of the
+// two numbers whose result leaves 128 bits.
+fn answer(check: &Check) -> i128 {
     match check {
-        Check::Point => write!(text, "point")?,
-        Check::Refuted(farkas) => {
-            write!(text, "refuted")?;
-            for part in farkas.parts.items() {
-                write_part(&mut text, part.lit, part.by)?;
-            }
-        }
-        Check::Paused => write!(text, "paused")?,
-        Check::Spent => write!(text, "spent")?,
-        Check::Excess(TableauExcess { place, excess }) => {
-            write!(text, "{place:?} {:?} {} {}", excess.op, excess.x, excess.y)?
-        }
+        Check::Point => 0,
+        Check::Refuted(farkas) => farkas.parts.len() as i128,
+        Check::Paused => -1,
+        Check::Spent => -2,
+        Check::Excess(fault) => fault.excess.x,
     }
-    Ok(text)
 }
 
-fn write_part(text: &mut String, lit: Lit, by: i128) -> Result<(), Fail> {
-    let side = match lit.side {
-        Side::Le => "<=",
-        Side::Ge => ">=",
-    };
-    match lit.term {
-        Term::Var(var) => write!(text, " {by} v{var}{side}{}", lit.bound)?,
-        Term::Row(row) => write!(text, " {by} r{row}{side}{}", lit.bound)?,
-    }
-    Ok(())
-}
-
-// What a check answers under the bounds of each line, which are given back after it.
-fn answers(alloc: Global, simplex: &mut Simplex<'_>, lines: &str) -> Result<String, Fail> {
-    let mut found = String::new(alloc);
+// The answers of a script, in order.
+fn answers(alloc: Global, simplex: &mut Simplex<'_>, script: &[Step]) -> Result<Vec<i128>, Fail> {
+    let mut found = Vec::new(alloc);
     let mut tally = Tally::new(100);
-    for line in lines.lines() {
-        let mark = simplex.mark();
-        put_all(simplex, line).ok_or("no such literal")?;
-        let check = simplex.check(alloc, &mut tally)?;
-        writeln!(found, "{}", written(alloc, &check)?)?;
-        if simplex.mark().changes < mark.changes {
+    let first = simplex.mark();
+    for (column, at_least, bound) in script {
+        if *column < simplex.bounds.columns() && simplex.spare() > 0 {
+            let term = simplex.bounds.term_at(*column);
+            let side = if *at_least { Side::Ge } else { Side::Le };
+            let bound = *bound;
+            simplex.assert_bound(&Lit { term, side, bound });
+            continue;
+        }
+        found.push(answer(&simplex.check(alloc, &mut tally)?))?;
+        if simplex.mark().changes < first.changes {
             return Err("fewer changes".into());
         }
-        simplex.back_to(mark);
+        simplex.back_to(first);
     }
     Ok(found)
 }
 
-// A system of variables, each from 0 to the same number.
-fn with_vars(alloc: Global, vars: u32, high: i128) -> Result<System, Fail>
-    requires few { vars < 2 ^ 31 }
-    requires range { IsRange (pos 0, high) }
-    ensures vars { IfOk result (λ system. length system.ranges ≡ vars) }
-    ensures rows { IfOk result (λ system. system.rows ≡ []) }
-{
+// Two variables of 0 and 1, their sum and twice their sum, and an empty row. One bound contradicts
+// another, a sum is too great, too small, or too great for one variable's bound.
+#[test]
+fn bounds_of_sums(rt: HostRuntime) -> Result<(), Fail> {
+    let alloc = rt.alloc();
     let mut system = System::new(alloc);
-    for _var in 0..vars {
-        system.add_var(0, high)?;
-    }
-    Ok(system)
-}
-
-// Two 0-1 variables and their sum.
-#[test]
-fn bounds_of_a_sum(rt: HostRuntime) -> Result<(), Fail> {
-    let alloc = rt.alloc();
-    let mut system = with_vars(alloc, 2, 1)?;
+    system.add_var(0, 1)?;
+    system.add_var(0, 1)?;
     system.add_row(&[Part { coeff: 1, var: 0 }, Part { coeff: 1, var: 1 }])?;
-    let mut simplex = Simplex::new(alloc, &system, 4)?;
-    let lines = "r0>=3\nr0>=1\nr0>=2 v0<=0\nv0>=1 v0<=0\nr0>=1 r0<=1 v1<=0\nr0<=-1\n";
-    let found = answers(alloc, &mut simplex, lines)?;
-    let expected = "refuted 1 v0<=1 1 v1<=1 1 r0>=3\npoint\n\
-        refuted 1 v0<=0 1 v1<=1 1 r0>=2\nrefuted 1 v0>=1 1 v0<=0\npoint\n\
-        refuted 1 v0>=0 1 v1>=0 1 r0<=-1\n";
-    assert_eq!(rt; found.as_str(), expected);
-    Ok(())
-}
-
-// Three times a variable from 0 to 5, an empty row, and twice the first with twice the second
-// variable.
-#[test]
-fn rows_of_other_coefficients(rt: HostRuntime) -> Result<(), Fail> {
-    let alloc = rt.alloc();
-    let mut system = with_vars(alloc, 2, 5)?;
-    system.add_row(&[Part { coeff: 3, var: 0 }])?;
-    system.add_row(&[])?;
     system.add_row(&[Part { coeff: 2, var: 0 }, Part { coeff: 2, var: 1 }])?;
+    system.add_row(&[])?;
     let mut simplex = Simplex::new(alloc, &system, 4)?;
-    let lines = "r0>=16\nr0>=14 r0<=14\nr1>=1\nr1<=0 r1>=0\nr2>=3 r2<=3\nr2>=21\nr2>=19 v0<=4\n";
-    let found = answers(alloc, &mut simplex, lines)?;
-    let expected = "refuted 3 v0<=5 1 r0>=16\npoint\nrefuted 1 r1>=1\npoint\npoint\n\
-        refuted 2 v0<=5 2 v1<=5 1 r2>=21\nrefuted 2 v0<=4 2 v1<=5 1 r2>=19\n";
-    assert_eq!(rt; found.as_str(), expected);
+    let script = [
+        (0, true, 1),
+        (0, false, 0),
+        CHECK,
+        (2, true, 3),
+        CHECK,
+        (2, false, -1),
+        CHECK,
+        (2, true, 2),
+        (0, false, 0),
+        CHECK,
+        (3, true, 3),
+        (3, false, 3),
+        CHECK,
+        (4, true, 1),
+        CHECK,
+        (2, true, 1),
+        (3, false, 2),
+        (1, false, 0),
+        CHECK,
+    ];
+    let found = answers(alloc, &mut simplex, &script)?;
+    assert_eq!(rt; found.as_slice(), [2, 3, 3, 3, 0, 1, 0].as_slice());
     Ok(())
 }
 
-// Each variable is below the next, in four of a range of three or four numbers.
+// Each of four variables of 0 to 3 is below the next: the last is 3.
 #[test]
 fn a_chain_of_orders(rt: HostRuntime) -> Result<(), Fail> {
     let alloc = rt.alloc();
-    let mut system = with_vars(alloc, 4, 3)?;
-    system.add_row(&[Part { coeff: 1, var: 0 }, Part { coeff: -1, var: 1 }])?;
-    system.add_row(&[Part { coeff: 1, var: 1 }, Part { coeff: -1, var: 2 }])?;
-    system.add_row(&[Part { coeff: 1, var: 2 }, Part { coeff: -1, var: 3 }])?;
+    let mut system = System::new(alloc);
+    for _var in 0..4u32 {
+        system.add_var(0, 3)?;
+    }
+    for var in 0..3u32 {
+        let next = var + 1;
+        system.add_row(&[
+            Part { coeff: 1, var },
+            Part {
+                coeff: -1,
+                var: next,
+            },
+        ])?;
+    }
     let mut simplex = Simplex::new(alloc, &system, 4)?;
-    let lines = "r0<=-1 r1<=-1 r2<=-1\nr0<=-1 r1<=-1 r2<=-1 v3<=2\nr1<=-1 r2<=-1 v3<=2\n";
-    let found = answers(alloc, &mut simplex, lines)?;
-    let expected = "point\nrefuted 1 v0>=0 1 v3<=2 1 r0<=-1 1 r1<=-1 1 r2<=-1\npoint\n";
-    assert_eq!(rt; found.as_str(), expected);
+    let script = [
+        (4, false, -1),
+        (5, false, -1),
+        (6, false, -1),
+        CHECK,
+        (4, false, -1),
+        (5, false, -1),
+        (6, false, -1),
+        (3, false, 2),
+        CHECK,
+    ];
+    let found = answers(alloc, &mut simplex, &script)?;
+    assert_eq!(rt; found.as_slice(), [0, 5].as_slice());
     Ok(())
 }
 
-// 2^62 times a variable up to 2^100, and three times one.
+// 2^62 times a variable up to 2^100 leaves 128 bits, as does three times a bound of 2^126.
 #[test]
-fn an_excess_names_its_place(rt: HostRuntime) -> Result<(), Fail> {
+fn an_excess_is_no_refutation(rt: HostRuntime) -> Result<(), Fail> {
     let alloc = rt.alloc();
-    let mut system = with_vars(alloc, 2, 1 << 126)?;
+    let mut system = System::new(alloc);
+    system.add_var(0, 1 << 126)?;
     system.add_row(&[Part {
         coeff: 1 << 62,
         var: 0,
     }])?;
-    system.add_row(&[Part { coeff: 3, var: 1 }])?;
     let mut simplex = Simplex::new(alloc, &system, 2)?;
-    let lines = "v0>=1267650600228229401496703205376 r0<=5\nv0<=0\nr1>=1\n";
-    let found = answers(alloc, &mut simplex, lines)?;
-    let expected =
-        "Value { basic: Row(0) } Times 4611686018427387904 1267650600228229401496703205376\n\
-        point\nCompare { basic: Var(1), bound: 85070591730234615865843651857942052864 } \
-        Times 3 85070591730234615865843651857942052864\n";
-    assert_eq!(rt; found.as_str(), expected);
+    let script = [
+        (0, true, 1 << 100),
+        (1, false, 5),
+        CHECK,
+        (0, false, 0),
+        CHECK,
+    ];
+    let found = answers(alloc, &mut simplex, &script)?;
+    assert_eq!(rt; found.as_slice(), [1 << 62, 0].as_slice());
     Ok(())
 }
 
-// Twice the first and the second variable is 3: one of them has a half.
+// Twice the sum of two variables of 0 and 1 is 3: one of them is a half. A spent budget answers
+// nothing.
 #[test]
 fn the_point_has_values(rt: HostRuntime) -> Result<(), Fail> {
     let alloc = rt.alloc();
-    let mut system = with_vars(alloc, 2, 1)?;
+    let mut system = System::new(alloc);
+    system.add_var(0, 1)?;
+    system.add_var(0, 1)?;
     system.add_row(&[Part { coeff: 2, var: 0 }, Part { coeff: 2, var: 1 }])?;
     let mut simplex = Simplex::new(alloc, &system, 2)?;
-    let mut spent = Tally::new(0);
-    let none = written(alloc, &simplex.check(alloc, &mut spent)?)?;
-    put_all(&mut simplex, "r0>=3 r0<=3").ok_or("no such literal")?;
-    let mut tally = Tally::new(100);
-    let check = written(alloc, &simplex.check(alloc, &mut tally)?)?;
-    let mut text = String::new(alloc);
-    for term in [Term::Var(0), Term::Var(1), Term::Row(0)] {
-        if !simplex.has_point || !exists(&simplex, term) {
+    let spent = answer(&simplex.check(alloc, &mut Tally::new(0))?);
+    for side in [Side::Ge, Side::Le] {
+        let (term, bound) = (Term::Row(0), 3);
+        if simplex.spare() == 0 || simplex.system().rows() == 0 {
+            return Err("no room".into());
+        }
+        simplex.assert_bound(&Lit { term, side, bound });
+    }
+    let point = answer(&simplex.check(alloc, &mut Tally::new(1))?);
+    let mut values = Vec::new(alloc);
+    for column in 0..simplex.bounds.columns() {
+        if !simplex.has_point {
             return Err("no point".into());
         }
-        match simplex.value(term) {
-            Ok(Ratio { num, den, .. }) => write!(text, " {num}/{den}")?,
+        match simplex.value(simplex.bounds.term_at(column)) {
+            Ok(Ratio { num, den, .. }) => values.push((num, den))?,
             Err(_) => return Err("an excess".into()),
         }
     }
-    let made = simplex.made;
     assert_eq!(rt;
-        (none.as_str(), check.as_str(), text.as_str()),
-        ("spent", "point", " 1/1 1/2 3/1")
+        (spent, point, simplex.made, values.as_slice()),
+        (-2, 0, 2, [(1, 1), (1, 2), (3, 1)].as_slice())
     );
-    assert_eq!(rt; (made, tally.checks), (2, 1));
     Ok(())
 }

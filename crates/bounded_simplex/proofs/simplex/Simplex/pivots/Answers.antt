@@ -5,7 +5,7 @@ use Rattle.tableau_rows.specs.declared.equation.Equation.{Equation}
 use Rattle.bounded_simplex.specs.Broken.{IsBroken}
 use Rattle.bounded_simplex.specs.Point.{Keeps}
 use Rattle.bounded_simplex.proofs.PointLaws.{point_from, beyond_from}
-use Rattle.bounded_simplex.proofs.simplex.Simplex.mend.Goals as goal
+use Rattle.bounded_simplex.proofs.simplex.Simplex.pivots.Goals as goal
 
 pub returns-in-Ok-None-clause-answer : goal.returns-in-Ok-None-clause-answer
 returns-in-Ok-None-clause-answer c =

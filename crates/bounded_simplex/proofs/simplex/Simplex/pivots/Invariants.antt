@@ -1,7 +1,7 @@
 use Rattle.std.proofs.Common.{◌≡◌, ◌≤◌, ◌-◌, false}
 use Rattle.mix_system.specs.Tally.{pivot_bound}
 use Rattle.bounded_simplex.specs.Point.{AreInBounds}
-use Rattle.bounded_simplex.proofs.simplex.Simplex.mend.Given as goal
+use Rattle.bounded_simplex.proofs.simplex.Simplex.pivots.Given as goal
 
 abbrev pub invariant-loop-broken : goal.invariant-loop-broken
 invariant-loop-broken l =
