@@ -23,7 +23,8 @@ use Rattle.ll_tree.specs.Words as words
 use Rattle.ll_tree.specs.Pieces.{Piece, Word, Bits, Number, Local, Global, Intrinsic, Mark, Blank, LineEnd, separated}
 use Rattle.ll_tree.specs.Text.{literal, operand_piece, pair, flag, flag_pieces, bin_pieces, truth, op_pieces, entry_pieces, phi_pieces, target, case_pieces, end_pieces}
 use Rattle.ll_grammar.specs.Tokens.{Tok}
-use Rattle.ll_grammar.specs.Spells.{IsLiteral, IsOperand, IsTyped, IsSecond, BeginsCall, SpellsBin, SpellsOp, is_called, word_of, SpellsEntry, SpellEntries, SpellsPhi, SpellsCase, SpellCases, SpellsEnd}
+use Rattle.ll_tree.specs.Words.{is_called}
+use Rattle.ll_grammar.specs.Spells.{IsLiteral, IsOperand, IsTyped, IsSecond, BeginsCall, SpellsBin, SpellsOp, word_of, SpellsEntry, SpellEntries, SpellsPhi, SpellsCase, SpellCases, SpellsEnd}
 use Rattle.ll_grammar.proofs.FlagLaws.{or_true}
 use Rattle.canonical_text.proofs.OperandLaws.{within_64, literal_fits}
 use Rattle.canonical_text.proofs.OpLaws.{same_word, called_word}

@@ -28,8 +28,9 @@ use Rattle.ll_tree.specs.Pieces.{Piece, Word, Bits, Number, Local, Mark, Blank, 
 use Rattle.ll_tree.specs.Text.{literal, operand_piece, pair, flag, flag_pieces, bin_pieces, truth, op_pieces, result_pieces, has_result, instr_pieces, entry_pieces, phi_pieces, case_pieces, end_pieces, line, block_pieces, range_pieces, ret_piece, ret_width, param_pieces, ret_pieces, signature_pieces, header_pieces}
 use Rattle.ll_grammar.specs.Tokens.{Tok}
 use Rattle.ll_grammar.specs.Words.{takes, cast_takes, compare_takes}
-use Rattle.ll_grammar.specs.Spells.{IsMark, IsNameOf, IsType, IsOperand, IsTyped, IsSecond, IsTarget, IsNextTarget, AreFlags, IsCall, ClosesCall, BeginsCall, SpellsBin, is_called, word_of, cast_word, pred_word, SpellsOp, SpellsInstr, SpellsResultOf, SpellsEntry, SpellEntries, SpellsPhi, SpellsCase, SpellCases, SpellsEnd, IsStatement, SpellPhis, SpellInstrs, SpellsBlock, SpellBlocks, SpellsEntryBlock, SpellBody, SpellsRange, SpellsAttributes, SpellsResult, SpellsParam, SpellParams, unnamed_with, is_unnamed, count_unnamed, SpellsFunction}
-use Rattle.ll_grammar.proofs.LengthLaws.{attributes_take, param_takes}
+use Rattle.ll_tree.specs.Words.{is_called, cast_word, pred_word}
+use Rattle.ll_grammar.specs.Spells.{IsMark, IsNameOf, IsType, IsOperand, IsTyped, IsSecond, IsTarget, IsNextTarget, AreFlags, IsCall, ClosesCall, BeginsCall, SpellsBin, word_of, SpellsOp, SpellsInstr, SpellsResultOf, SpellsEntry, SpellEntries, SpellsPhi, SpellsCase, SpellCases, SpellsEnd, IsStatement, SpellPhis, SpellInstrs, SpellsBlock, SpellBlocks, SpellsEntryBlock, SpellBody, SpellsRange, SpellsAttributes, SpellsResult, SpellsParam, SpellParams, unnamed_with, is_unnamed, count_unnamed, SpellsFunction}
+use Rattle.ll_grammar.proofs.LeavesLaws.{attributes_leave, param_leaves}
 use Rattle.canonical_text.specs.Shown.{open_pieces}
 use Rattle.canonical_text.specs.Named.{IsName, IsNamed, AreNamed, AreReal}
 use Rattle.canonical_text.proofs.OpLaws.{same_word, called_word}
@@ -304,11 +305,11 @@ params_named unnamed [] us vs few (t, e, k, is) real =
     (tt, mark_real 41 us vs (t, e, k, is) real, omega (arith, few, ap (λ (l : List Tok). length l) e))
 params_named unnamed (p ∷ []) us vs few (a, given, (t, e, k, is)) real =
     let one = param_named unnamed p us a (omega (arith, few)) given real in
-    let shorter = param_takes unnamed p us a given in
+    let shorter = (param_leaves unnamed p us a given).takes in
     (named_both (param_pieces p) [] one.0 tt, mark_real 41 a vs (t, e, k, is) one.1, omega (arith, few, shorter, one_more unnamed p, ap (λ (l : List Tok). length l) e))
 params_named unnamed (p ∷ next ∷ ps) us vs few (a, b, given, (t, e, k, is), others) real =
     let one = param_named unnamed p us a (omega (arith, few)) given real in
-    let shorter = param_takes unnamed p us a given in
+    let shorter = (param_leaves unnamed p us a given).takes in
     let still : unnamed_with unnamed p + length b < 2 ^ 64 = omega (arith, few, shorter, one_more unnamed p, ap (λ (l : List Tok). length l) e) in
     let more = params_named (unnamed_with unnamed p) (next ∷ ps) b vs still others (mark_real 44 a b (t, e, k, is) one.1) in
     (named_both (param_pieces p) (Mark 44 ∷ Blank ∷ separated param_pieces (next ∷ ps)) one.0 (tt, (tt, more.0)), more.1, more.2)
@@ -319,8 +320,8 @@ one_takes : (us vs : List Tok) (t : Tok) → us ≡ t ∷ vs → length vs ≤ l
 one_takes us vs t e = omega (arith, ap (λ (l : List Tok). length l) e)
 
 result_takes : (r : Ret) (noundef : Bool) (range : Option Range) (us vs : List Tok) → SpellsResult r noundef range us vs → length vs ≤ length us
-result_takes ret.Void noundef range us vs (a, none, given, void) = omega (arith, attributes_take tables.header 1 noundef range us a given, one_takes a vs void.0 void.1)
-result_takes (ret.Int w) noundef range us vs (a, given, type) = omega (arith, attributes_take tables.header w noundef range us a given, one_takes a vs type.0.0 type.0.1)
+result_takes ret.Void noundef range us vs (a, none, given, void) = omega (arith, (attributes_leave tables.header 1 noundef range us a given).takes, one_takes a vs void.0 void.1)
+result_takes (ret.Int w) noundef range us vs (a, given, type) = omega (arith, (attributes_leave tables.header w noundef range us a given).takes, one_takes a vs type.0.0 type.0.1)
 
 pub function_named : (func : Func) (given : List Tok) → length given < 2 ^ 64 → AreReal given → SpellsFunction func given → AreNamed (open_pieces func)
 unfolding header_pieces ret_pieces signature_pieces

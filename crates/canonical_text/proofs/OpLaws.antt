@@ -1,5 +1,5 @@
 -- Operations: what is shown spells them where something does.
-use Rattle.std.proofs.Common.{◌≡◌, ◌≤◌, ℕ, Bool, true, false, eqb, List, [], ◌∷◌, ◌++◌, refl, sym, subst, inl, inr, true≢false}
+use Rattle.std.proofs.Common.{◌≡◌, ◌≤◌, ℕ, Bool, true, false, eqb, List, [], ◌∷◌, ◌++◌, refl, ap, cond, sym, subst, inl, inr, true≢false}
 use Rattle.std.specs.Prelude.{codes}
 use Rattle.ll_token.specs.declared.token.TokenKind.TheVariants as kinds
 use Rattle.ll_tree.specs.declared.block.Operand.{Operand}
@@ -9,16 +9,14 @@ use Rattle.ll_tree.specs.declared.op.Flags.{Flags}
 use Rattle.ll_tree.specs.declared.op.BinKind.{BinKind}
 use Rattle.ll_tree.specs.declared.op.BinKind.TheVariants as bin
 use Rattle.ll_tree.specs.declared.op.CastKind.{CastKind}
-use Rattle.ll_tree.specs.declared.op.CastKind.TheVariants as cast
 use Rattle.ll_tree.specs.declared.op.Pred.{Pred}
-use Rattle.ll_tree.specs.declared.op.Pred.TheVariants as pred
 use Rattle.ll_tree.specs.Words as words
-use Rattle.ll_tree.specs.Words.{type_word}
+use Rattle.ll_tree.specs.Words.{is_called, type_word}
 use Rattle.ll_tree.specs.Pieces.{Piece, Word, Bits, Global, Intrinsic, Mark, Blank}
 use Rattle.ll_tree.specs.Text.{operand_piece, pair, flag_pieces, bin_pieces, truth, abs_pieces, assume_pieces, op_pieces}
 use Rattle.ll_grammar.specs.Tokens.{Tok, debug_at}
 use Rattle.ll_grammar.specs.Words.{takes, cast_takes, compare_takes}
-use Rattle.ll_grammar.specs.Spells.{IsWord, IsNameOf, IsLiteral, IsTyped, IsSecond, IsNoGroup, ClosesCall, BeginsCall, SpellsBin, SpellsOp, word_of, is_called, cast_word, pred_word}
+use Rattle.ll_grammar.specs.Spells.{IsWord, IsNameOf, IsLiteral, IsTyped, IsSecond, IsNoGroup, ClosesCall, BeginsCall, SpellsBin, SpellsOp, word_of}
 use Rattle.canonical_text.specs.Shown.{Shows, ShowAll}
 use Rattle.canonical_text.proofs.ShownLaws.{spaced, blank, last}
 use Rattle.canonical_text.proofs.OperandLaws.{operand_again, type_again, typed_again}
@@ -27,20 +25,7 @@ use Rattle.canonical_text.proofs.FlagLaws.{flags_again}
 -- ---- words
 
 pub same_word : (kind : BinKind) → is_called kind ≡ false → (words.is_called kind ≡ false) × (words.bin_word kind ≡ word_of kind)
-same_word bin.Add plain = (refl, refl)
-same_word bin.Sub plain = (refl, refl)
-same_word bin.Mul plain = (refl, refl)
-same_word bin.Shl plain = (refl, refl)
-same_word bin.Lshr plain = (refl, refl)
-same_word bin.Ashr plain = (refl, refl)
-same_word bin.And plain = (refl, refl)
-same_word bin.Or plain = (refl, refl)
-same_word bin.Xor plain = (refl, refl)
-same_word bin.Udiv plain = (refl, refl)
-same_word bin.Sdiv plain = (refl, refl)
-same_word bin.Urem plain = (refl, refl)
-same_word bin.Srem plain = (refl, refl)
-same_word kind called = absurd (true≢false called)
+same_word kind plain = (plain, sym (ap (λ (called : Bool). cond called (codes "llvm." ++ (words.bin_word kind ++ codes ".")) (words.bin_word kind)) plain))
 
 -- the name of a called function, before its type
 pub called_word : (kind : BinKind) → is_called kind ≡ true → (words.is_called kind ≡ true) × ((t : List ℕ) → codes "llvm." ++ (words.bin_word kind ++ (codes "." ++ t)) ≡ word_of kind ++ t)
@@ -49,23 +34,6 @@ called_word bin.Smax called = (refl, λ t. refl)
 called_word bin.Umin called = (refl, λ t. refl)
 called_word bin.Umax called = (refl, λ t. refl)
 called_word kind plain = absurd (true≢false (sym plain))
-
-same_cast : (kind : CastKind) → words.cast_word kind ≡ cast_word kind
-same_cast cast.Zext = refl
-same_cast cast.Sext = refl
-same_cast cast.Trunc = refl
-
-same_pred : (p : Pred) → words.pred_word p ≡ pred_word p
-same_pred pred.Eq = refl
-same_pred pred.Ne = refl
-same_pred pred.Ugt = refl
-same_pred pred.Uge = refl
-same_pred pred.Ult = refl
-same_pred pred.Ule = refl
-same_pred pred.Sgt = refl
-same_pred pred.Sge = refl
-same_pred pred.Slt = refl
-same_pred pred.Sle = refl
 
 -- ---- parts
 
@@ -144,7 +112,7 @@ compare_again p f w left right us vs ts rest (k, l, m, n, icmp, flags, word, fir
     let (b, are, s) = flags_again compare_takes f (Word (words.pred_word p) ∷ Blank ∷ pair w left right) k l a rest flags s in
     let (c, is_pred, s) = spaced (Word (words.pred_word p)) (pair w left right) b rest s in
     let (d, l_is, r_is) = pair_again w left right m n vs c rest first second s in
-    (a, b, c, d, is.0, are, subst (λ (x : List ℕ). IsWord x b c) (same_pred p) is_pred.0, l_is, r_is)
+    (a, b, c, d, is.0, are, is_pred.0, l_is, r_is)
 
 cast_again : (kind : CastKind) (f : Flags) (from : ℕ) (arg : Operand) (to : ℕ) (us vs ts rest : List Tok) → SpellsOp (op.Cast kind f from arg to) us vs
     → ShowAll (Word (words.cast_word kind) ∷ Blank ∷ (flag_pieces f ++ Bits from ∷ Blank ∷ operand_piece from arg ∷ Blank ∷ Word (codes "to") ∷ Blank ∷ Bits to ∷ [])) ts rest → SpellsOp (op.Cast kind f from arg to) ts rest
@@ -153,7 +121,7 @@ cast_again kind f from arg to us vs ts rest (k, l, m, n, word, flags, given, is_
     let (b, are, s) = flags_again (cast_takes kind) f (Bits from ∷ Blank ∷ operand_piece from arg ∷ Blank ∷ Word (codes "to") ∷ Blank ∷ Bits to ∷ []) k l a rest flags s in
     let (c, arg_is, s) = typed_again from arg (Blank ∷ Word (codes "to") ∷ Blank ∷ Bits to ∷ []) l m b rest given s in
     let (d, to_is, s) = spaced (Word (codes "to")) (Bits to ∷ []) c rest (blank (Word (codes "to") ∷ Blank ∷ Bits to ∷ []) c rest s) in
-    (a, b, c, d, subst (λ (x : List ℕ). IsWord x ts a) (same_cast kind) is.0, are, arg_is, to_is.0, type_again to n vs d rest type (last (Bits to) d rest s))
+    (a, b, c, d, is.0, are, arg_is, to_is.0, type_again to n vs d rest type (last (Bits to) d rest s))
 
 select_again : (w : ℕ) (cond left right : Operand) (us vs ts rest : List Tok) → SpellsOp (op.Select w cond left right) us vs
     → ShowAll (Word (codes "select") ∷ Blank ∷ Bits 1 ∷ Blank ∷ operand_piece 1 cond ∷ Mark 44 ∷ Blank ∷ Bits w ∷ Blank ∷ operand_piece w left ∷ Mark 44 ∷ Blank ∷ Bits w ∷ Blank ∷ operand_piece w right ∷ []) ts rest

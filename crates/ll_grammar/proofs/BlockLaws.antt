@@ -15,7 +15,7 @@ use Rattle.ll_grammar.specs.Spells.{IsNameOf, ArePassed, IsStatement, SpellsPhi,
 use Rattle.ll_grammar.proofs.DoneLaws.{OnDone, on_done, on_ran_out, on_then, on_if, weaken}
 use Rattle.ll_grammar.proofs.TokenLaws.{kind_is}
 use Rattle.ll_grammar.proofs.FormLaws.{name_sound}
-use Rattle.ll_grammar.proofs.LengthLaws.{block_takes}
+use Rattle.ll_grammar.proofs.LeavesLaws.{block_leaves}
 use Rattle.ll_grammar.proofs.StatementLaws.{IsStatementOf, statement_sound, passed_is}
 
 -- a block that goes on behind these phis and instructions; a phi only where there is no instruction yet
@@ -128,7 +128,7 @@ blocks_within_sound zero so_far ts = on_done ([], sym (append-nil so_far), refl,
 blocks_within_sound (suc most) so_far ts = on_if (is_empty ts) _ _
     (λ is. on_done ([], sym (append-nil so_far), refl, λ few. empty_is ts is))
     (λ _. on_then _ _ (labelled_block_sound ts) (λ b a is. weaken (blocks_within_sound most (so_far ++ b ∷ []) a) (λ all rest w.
-    (b ∷ w.0, w.1 ∙ append_assoc so_far (b ∷ []) w.0, (is.0, a, is.1, is.2, w.2), λ few. w.3 (omega (arith, few, ap length is.1.1, block_takes b is.0 a is.2))))))
+    (b ∷ w.0, w.1 ∙ append_assoc so_far (b ∷ []) w.0, (is.0, a, is.1, is.2, w.2), λ few. w.3 (omega (arith, few, ap length is.1.1, (block_leaves b is.0 a is.2).takes))))))
 
 pub blocks_sound : (unwritten : List ℕ) (ts : List Tok) → OnDone (blocks unwritten ts) (λ bs rest. SpellBody unwritten bs ts rest × (rest ≡ []))
 unfolding blocks

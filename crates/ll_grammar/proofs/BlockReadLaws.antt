@@ -12,7 +12,7 @@ use Rattle.ll_grammar.specs.Reading.{Done}
 use Rattle.ll_grammar.specs.Blocks.{passed, block_within, block, entry_block, labelled_block, blocks_within, blocks}
 use Rattle.ll_grammar.specs.Spells.{IsNameOf, IsStatement, SpellsPhi, SpellsInstr, SpellsEnd, SpellPhis, SpellInstrs, SpellsBlock, SpellBlocks, SpellsEntryBlock, SpellBody}
 use Rattle.ll_grammar.proofs.StatementLaws.{SpellsItem}
-use Rattle.ll_grammar.proofs.LengthLaws.{statement_takes, phi_takes, instr_takes, end_takes, block_takes}
+use Rattle.ll_grammar.proofs.LeavesLaws.{statement_leaves, phi_leaves, instr_leaves, end_leaves, block_leaves}
 use Rattle.ll_grammar.proofs.TokenReadLaws.{then_reads, if_reads, else_reads, behind_first, at_mark, at_name, kind_there, name_reads}
 use Rattle.ll_grammar.proofs.StatementReadLaws.{passed_reads, item_no_label, statement_no_comma, statement_reads}
 
@@ -33,14 +33,14 @@ block_no_comma (p ∷ phis) body e ts a c rest (d, is, more) are ends = statemen
 instrs_read : (more : List Instr) (most : ℕ) (label : List ℕ) (phis : List Phi) (body : List Instr) (e : End) (ts c rest : List Tok) → length ts ≤ most
     → SpellInstrs more ts c → IsStatement (SpellsEnd e) c rest → mark_at 44 rest ≡ false → block_within most label phis body ts ≡ Done (record { label = label; phis = phis; body = body ++ more; end = e }) rest
 unfolding block_within
-instrs_read [] zero label phis body e ts c rest few here ends no_comma = absurd (omega (arith, few, ap length here, statement_takes (SpellsEnd e) (end_takes e) c rest ends))
+instrs_read [] zero label phis body e ts c rest few here ends no_comma = absurd (omega (arith, few, ap length here, (statement_leaves (SpellsEnd e) (end_leaves e) c rest ends).takes))
 instrs_read [] (suc most) label phis body e ts c rest few here ends no_comma =
     then_reads _ _ (statement_reads (is_empty body) (item.End e) ts rest (subst (λ l. IsStatement (SpellsEnd e) l rest) (sym here) ends) no_comma)
     (ap (λ (b : List Instr). Done (record { label = label; phis = phis; body = b; end = e }) rest) (sym (append-nil body)))
-instrs_read (i ∷ more) zero label phis body e ts c rest few (a, is, are) ends no_comma = absurd (omega (arith, few, statement_takes (SpellsInstr i) (instr_takes i) ts a is))
+instrs_read (i ∷ more) zero label phis body e ts c rest few (a, is, are) ends no_comma = absurd (omega (arith, few, (statement_leaves (SpellsInstr i) (instr_leaves i) ts a is).takes))
 instrs_read (i ∷ more) (suc most) label phis body e ts c rest few (a, is, are) ends no_comma =
     then_reads _ _ (statement_reads (is_empty body) (item.Instr i) ts a is (ends_no_comma more e a c rest are ends))
-    (instrs_read more most label phis (body ++ i ∷ []) e a c rest (omega (arith, few, statement_takes (SpellsInstr i) (instr_takes i) ts a is)) are ends no_comma
+    (instrs_read more most label phis (body ++ i ∷ []) e a c rest (omega (arith, few, (statement_leaves (SpellsInstr i) (instr_leaves i) ts a is).takes)) are ends no_comma
     ∙ ap (λ (b : List Instr). Done (record { label = label; phis = phis; body = b; end = e }) rest) (append_assoc body (i ∷ []) more))
 
 phis_read : (more : List Phi) (most : ℕ) (label : List ℕ) (phis : List Phi) (body : List Instr) (e : End) (ts a c rest : List Tok) → length ts ≤ most
@@ -49,10 +49,10 @@ unfolding block_within
 phis_read [] most label phis body e ts a c rest few here are ends no_comma =
     instrs_read body most label phis [] e ts c rest few (subst (λ l. SpellInstrs body l c) (sym here) are) ends no_comma
     ∙ ap (λ (ps : List Phi). Done (record { label = label; phis = ps; body = body; end = e }) rest) (sym (append-nil phis))
-phis_read (p ∷ more) zero label phis body e ts a c rest few (d, is, ps) are ends no_comma = absurd (omega (arith, few, statement_takes (SpellsPhi p) (phi_takes p) ts d is))
+phis_read (p ∷ more) zero label phis body e ts a c rest few (d, is, ps) are ends no_comma = absurd (omega (arith, few, (statement_leaves (SpellsPhi p) (phi_leaves p) ts d is).takes))
 phis_read (p ∷ more) (suc most) label phis body e ts a c rest few (d, is, ps) are ends no_comma =
     then_reads _ _ (statement_reads true (item.Phi p) ts d (as_item is) (block_no_comma more body e d a c rest ps are ends))
-    (phis_read more most label (phis ++ p ∷ []) body e d a c rest (omega (arith, few, statement_takes (SpellsPhi p) (phi_takes p) ts d is)) ps are ends no_comma
+    (phis_read more most label (phis ++ p ∷ []) body e d a c rest (omega (arith, few, (statement_leaves (SpellsPhi p) (phi_leaves p) ts d is).takes)) ps are ends no_comma
     ∙ ap (λ (ps : List Phi). Done (record { label = label; phis = ps; body = body; end = e }) rest) (append_assoc phis (p ∷ []) more))
   where
     as_item : IsStatement (SpellsPhi p) ts d → IsStatement (SpellsItem true (item.Phi p)) ts d
@@ -82,7 +82,7 @@ blocks_within_reads (b ∷ bs) zero so_far ts few (a, c, label, is, more) = absu
 blocks_within_reads (b ∷ bs) (suc most) so_far ts few (a, c, label, is, more) =
     else_reads (is_empty ts) _ _ (ap is_empty label.1)
     (then_reads _ _ (labelled_block_reads b ts a c label is (blocks_no_comma bs c more))
-    (blocks_within_reads bs most (so_far ++ b ∷ []) c (omega (arith, few, ap length label.1, block_takes b a c is)) more ∙ ap (λ (bs : List Block). Done bs []) (append_assoc so_far (b ∷ []) bs)))
+    (blocks_within_reads bs most (so_far ++ b ∷ []) c (omega (arith, few, ap length label.1, (block_leaves b a c is).takes)) more ∙ ap (λ (bs : List Block). Done bs []) (append_assoc so_far (b ∷ []) bs)))
 
 -- ---- the entry
 

@@ -19,11 +19,11 @@ use Rattle.ll_grammar.proofs.DoneLaws.{OnDone, weaken}
 use Rattle.ll_grammar.proofs.FlagLaws.{and_false}
 use Rattle.ll_grammar.proofs.StatementLaws.{SpellsItem, metadatum_sound, passed_is, statement_sound}
 use Rattle.ll_grammar.proofs.BlockLaws.{labelled_block_sound}
-use Rattle.ll_grammar.proofs.LengthLaws.{statement_takes, block_takes}
+use Rattle.ll_grammar.proofs.LeavesLaws.{statement_leaves, block_leaves}
 use Rattle.ll_grammar.proofs.StatementReadLaws.{passed_reads, end_reads, statement_reads}
 use Rattle.ll_grammar.proofs.EarlyLaws.{early_taken, early_behind, settles_from}
 use Rattle.ll_grammar.proofs.EarlyFormLaws.{looks_mark, looks_kind, looks_name, looks_of_word, early_mark, early_name, early_metadatum, early_operation, early_assume, early_phi, early_terminator, then_same, if_same}
-use Rattle.ll_grammar.proofs.EarlyBlockLaws.{metadata_settle, early_metadata, early_passes, early_bare_statement, early_statement, item_takes, block_settle, early_entry_block, early_labelled_block, blocks_settle, looks_empty}
+use Rattle.ll_grammar.proofs.EarlyBlockLaws.{metadata_settle, early_metadata, early_passes, early_bare_statement, early_statement, item_leaves, block_settle, early_entry_block, early_labelled_block, blocks_settle, looks_empty}
 use Rattle.ll_grammar.proofs.CompletionLaws.{always_done, token, Older, older_behind, Ends, Finish, Any, FirstIs, Always, Starts, Completes, Comp, comp_weak, seq, seq_any, comp_done, comp_of, completes_if, completes_done, completes_taken, completes_same, completes_zero, completes_behind, completes_both, starts_done, starts_then, starts_weak, starts_else}
 use Rattle.ll_grammar.proofs.CompletionFormLaws.{word, sign, comp_mark, comp_name, comp_metadatum}
 use Rattle.ll_grammar.proofs.CompletionOpLaws.{NoGroup, NoComma, comp_assume, comp_operation, comp_phi, comp_terminator}
@@ -181,7 +181,7 @@ step_agrees label phis body (item.End e) n a fits = refl
 block_unfold : (label : List ℕ) (phis : List Phi) (body : List Instr) (ts : List Tok) → more_block label phis body ts ≡ (statement (is_empty body) ts >>= step_of label phis body)
 unfolding more_block block_within
 block_unfold label phis body ts = block_settle (length ts) label phis body ts (omega arith) ∙ then_same (statement (is_empty body) ts) _ _ (weaken (statement_sound (is_empty body) ts) (λ it a is.
-    step_agrees label phis body it (length ts) a (omega (arith, statement_takes (SpellsItem (is_empty body) it) (item_takes (is_empty body) it) ts a is))))
+    step_agrees label phis body it (length ts) a (omega (arith, (statement_leaves (SpellsItem (is_empty body) it) (item_leaves (is_empty body) it) ts a is).takes))))
 
 block_start : (n : ℕ) (label : List ℕ) (phis : List Phi) (body : List Instr) → Starts (more_block label phis body) Always Apart (FirstIs (word n (codes "unreachable")))
 block_start n label phis body = record {
@@ -201,7 +201,7 @@ block_complete : (n m : ℕ) (label : List ℕ) (phis : List Phi) (body : List I
 block_complete n zero label phis body = completes_zero
 block_complete n (suc m) label phis body = completes_same (more_block label phis body) (λ ts. statement (is_empty body) ts >>= step_of label phis body) (block_unfold label phis body)
     (completes_both (statement (is_empty body)) (step_of label phis body) Always Always Apart Apart n (suc m) m Always
-    (λ ts. weaken (statement_sound (is_empty body) ts) (λ it a is. (tt, λ few. omega (arith, few, statement_takes (SpellsItem (is_empty body) it) (item_takes (is_empty body) it) ts a is))))
+    (λ ts. weaken (statement_sound (is_empty body) ts) (λ it a is. (tt, λ few. omega (arith, few, (statement_leaves (SpellsItem (is_empty body) it) (item_leaves (is_empty body) it) ts a is).takes))))
     (early_statement (is_empty body)) ((comp_statement n (is_empty body)).completes (suc m)) (λ it _. go it (block_complete n m label)) (λ it _. step_starts n label phis body it))
   where
     go : (it : Item) → ((phis : List Phi) (body : List Instr) → Completes n m (more_block label phis body) Always Apart) → Completes n m (step_of label phis body it) Always Apart
@@ -246,7 +246,7 @@ more_blocks bs ts = blocks_within (length ts) bs ts
 blocks_unfold : (bs : List Block) (ts : List Tok) → more_blocks bs ts ≡ (if is_empty ts then Done bs ts else (labelled_block ts >>= λ b ts. more_blocks (bs ++ b ∷ []) ts))
 unfolding more_blocks blocks_within
 blocks_unfold bs ts = blocks_settle (length ts) bs ts (omega arith) ∙ if_same (is_empty ts) _ _ _ _ (λ _. refl) (λ _. then_same (labelled_block ts) _ _ (weaken (labelled_block_sound ts) (λ b a is.
-    settles_from (λ n. blocks_within n (bs ++ b ∷ [])) (λ n ts fits. blocks_settle n (bs ++ b ∷ []) ts fits) (length ts) a (omega (arith, ap length is.1.1, block_takes b is.0 a is.2)))))
+    settles_from (λ n. blocks_within n (bs ++ b ∷ [])) (λ n ts fits. blocks_settle n (bs ++ b ∷ []) ts fits) (length ts) a (omega (arith, ap length is.1.1, (block_leaves b is.0 a is.2).takes)))))
 
 -- nothing follows
 abbrev pub Nothing : List Tok → Type 0
@@ -265,7 +265,7 @@ blocks_complete n zero bs = completes_zero
 blocks_complete n (suc m) bs = completes_same (more_blocks bs) (λ ts. if is_empty ts then Done bs ts else (labelled_block ts >>= λ b ts. more_blocks (bs ++ b ∷ []) ts)) (blocks_unfold bs)
     (completes_if (λ ts. is_empty ts) (λ ts. Done bs ts) (λ ts. labelled_block ts >>= λ b ts. more_blocks (bs ++ b ∷ []) ts) looks_empty (completes_done bs)
     (completes_both labelled_block (λ b ts. more_blocks (bs ++ b ∷ []) ts) Always Always Apart Nothing n (suc m) m Always
-    (λ ts. weaken (labelled_block_sound ts) (λ b a is. (tt, λ few. omega (arith, few, ap length is.1.1, block_takes b is.0 a is.2)))) early_labelled_block ((comp_labelled_block n).completes (suc m))
+    (λ ts. weaken (labelled_block_sound ts) (λ b a is. (tt, λ few. omega (arith, few, ap length is.1.1, (block_leaves b is.0 a is.2).takes)))) early_labelled_block ((comp_labelled_block n).completes (suc m))
     (λ b _. blocks_complete n m (bs ++ b ∷ [])) (λ b _. blocks_start (bs ++ b ∷ []))))
 
 pub comp_blocks : (n : ℕ) (unwritten : List ℕ) → Comp n (blocks unwritten) Always Nothing (Fresh n)

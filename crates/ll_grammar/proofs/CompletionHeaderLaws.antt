@@ -19,7 +19,7 @@ use Rattle.ll_grammar.specs.Header.{is_among, words_within, words, other_literal
 use Rattle.ll_grammar.specs.Blocks.{blocks}
 use Rattle.ll_grammar.proofs.DoneLaws.{OnDone, weaken}
 use Rattle.ll_grammar.proofs.HeaderLaws.{param_sound}
-use Rattle.ll_grammar.proofs.LengthLaws.{param_takes}
+use Rattle.ll_grammar.proofs.LeavesLaws.{param_leaves}
 use Rattle.ll_grammar.proofs.TokenReadLaws.{has_width_reads}
 use Rattle.ll_grammar.proofs.HeaderReadLaws.{type_not_among, no_header_type}
 use Rattle.ll_grammar.proofs.EarlyLaws.{IsEarly, early_take_some, early_taken, settles_from}
@@ -236,7 +236,7 @@ after_param ps unnamed p ts = if p.1 then more_params (ps ++ p.0 ∷ []) (count_
 params_unfold : (ps : List Param) (unnamed : ℕ) (ts : List Tok) → more_params ps unnamed ts ≡ (param unnamed ts >>= after_param ps unnamed)
 unfolding more_params after_param params_within
 params_unfold ps unnamed ts = params_settle (length ts) ps unnamed ts (omega arith) ∙ then_same (param unnamed ts) _ _ (weaken (param_sound unnamed ts) (λ p a is. if_same p.1 _ _ _ _
-    (λ _. settles_from (λ n. params_within n (ps ++ p.0 ∷ []) (count_unnamed unnamed p.0.name)) (λ n ts fits. params_settle n (ps ++ p.0 ∷ []) (count_unnamed unnamed p.0.name) ts fits) (length ts) a (omega (arith, param_takes unnamed p.0 ts is.0 is.1, ap length is.2.1))) (λ _. refl)))
+    (λ _. settles_from (λ n. params_within n (ps ++ p.0 ∷ []) (count_unnamed unnamed p.0.name)) (λ n ts fits. params_settle n (ps ++ p.0 ∷ []) (count_unnamed unnamed p.0.name) ts fits) (length ts) a (omega (arith, (param_leaves unnamed p.0 ts is.0 is.1).takes, ap length is.2.1))) (λ _. refl)))
 
 last_starts : {C : List Tok → Type 0} (ps : List Param) (unnamed : ℕ) (p : Param) (more : Bool) → more ≡ false → Starts (after_param ps unnamed (p, more)) Always C Any
 unfolding after_param
@@ -256,7 +256,7 @@ unfolding after_param
 params_complete n zero ps unnamed = completes_zero
 params_complete {C} n (suc m) ps unnamed = completes_same (more_params ps unnamed) (λ ts. param unnamed ts >>= after_param ps unnamed) (params_unfold ps unnamed)
     (completes_both (param unnamed) (after_param ps unnamed) Always Always Any C n (suc m) m Always
-    (λ ts. weaken (param_sound unnamed ts) (λ p a is. (tt, λ few. omega (arith, few, param_takes unnamed p.0 ts is.0 is.1, ap length is.2.1)))) (early_param unnamed) (param_complete n (suc m) unnamed)
+    (λ ts. weaken (param_sound unnamed ts) (λ p a is. (tt, λ few. omega (arith, few, (param_leaves unnamed p.0 ts is.0 is.1).takes, ap length is.2.1)))) (early_param unnamed) (param_complete n (suc m) unnamed)
     (λ p _. go p.0 p.1 (params_complete n m (ps ++ p.0 ∷ []) (count_unnamed unnamed p.0.name))) (λ p _. after_starts n ps unnamed p.0 p.1))
   where
     go : (p : Param) (more : Bool) → Completes n m (more_params (ps ++ p ∷ []) (count_unnamed unnamed p.name)) Always C → Completes n m (after_param ps unnamed (p, more)) Always C

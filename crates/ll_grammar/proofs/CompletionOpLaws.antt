@@ -20,7 +20,7 @@ use Rattle.ll_grammar.specs.Forms.{operand, typed, of_width, next_target, target
 use Rattle.ll_grammar.proofs.DoneLaws.{weaken}
 use Rattle.ll_grammar.proofs.FormLaws.{case_sound}
 use Rattle.ll_grammar.proofs.StatementLaws.{entry_sound, another_sound}
-use Rattle.ll_grammar.proofs.LengthLaws.{case_takes, entry_takes}
+use Rattle.ll_grammar.proofs.LeavesLaws.{case_leaves, entry_leaves}
 use Rattle.ll_grammar.proofs.FormReadLaws.{goto_reads, terminator_reads}
 use Rattle.ll_grammar.proofs.OpReadLaws.{call_words_reads, callee_of_reads}
 use Rattle.ll_grammar.proofs.EarlyLaws.{early_within, settles_from, push_if}
@@ -150,7 +150,7 @@ after_entry w es e ts = another ts >>= λ follows ts. if follows then more_entri
 entries_unfold : (w : ℕ) (es : List PhiEntry) (ts : List Tok) → more_entries w es ts ≡ (entry w ts >>= λ e ts. after_entry w es e ts)
 unfolding more_entries after_entry entries
 entries_unfold w es ts = entries_settle w (length ts) es ts (omega arith) ∙ then_same (entry w ts) _ _ (weaken (entry_sound w ts) (λ e a is. then_same (another a) _ _ (weaken (another_sound a) (λ follows b next.
-    if_same follows _ _ _ _ (λ _. settles_from (λ n. entries w n (es ++ e ∷ [])) (λ n ts fits. entries_settle w n (es ++ e ∷ []) ts fits) (length ts) b (omega (arith, entry_takes w e ts a is, follows_take follows a b next))) (λ _. refl)))))
+    if_same follows _ _ _ _ (λ _. settles_from (λ n. entries w n (es ++ e ∷ [])) (λ n ts fits. entries_settle w n (es ++ e ∷ []) ts fits) (length ts) b (omega (arith, (entry_leaves w e ts a is).takes, follows_take follows a b next))) (λ _. refl)))))
 
 after_entry_starts : (w : ℕ) (es : List PhiEntry) (e : PhiEntry) → Starts (after_entry w es e) Always NoComma NoComma
 unfolding after_entry
@@ -167,7 +167,7 @@ entries_complete : (n w m : ℕ) (es : List PhiEntry) → Completes n m (more_en
 unfolding after_entry
 entries_complete n w zero es = completes_zero
 entries_complete n w (suc m) es = completes_same (more_entries w es) (λ ts. entry w ts >>= λ e ts. after_entry w es e ts) (entries_unfold w es)
-    (completes_both (entry w) (λ e ts. after_entry w es e ts) Always Always Any NoComma n (suc m) m Always (λ ts. weaken (entry_sound w ts) (λ e a is. (tt, λ few. omega (arith, few, entry_takes w e ts a is)))) (early_entry w) ((comp_entry n w).completes (suc m))
+    (completes_both (entry w) (λ e ts. after_entry w es e ts) Always Always Any NoComma n (suc m) m Always (λ ts. weaken (entry_sound w ts) (λ e a is. (tt, λ few. omega (arith, few, (entry_leaves w e ts a is).takes)))) (early_entry w) ((comp_entry n w).completes (suc m))
     (λ e _. completes_both another (λ follows ts. if follows then more_entries w (es ++ e ∷ []) ts else Done (es ++ e ∷ []) ts) IsFalse Always NoComma NoComma n m m Always
     (λ ts. weaken (another_sound ts) (λ follows a next. (tt, λ few. omega (arith, few, follows_take follows ts a next)))) early_another (another_complete n m) (λ follows _. go e follows (entries_complete n w m (es ++ e ∷ []))) (λ follows is. stops e follows is))
     (λ e _. starts_weak (after_entry_starts w es e) (λ k _. tt)))
@@ -225,7 +225,7 @@ more_cases cs ts = cases (length ts) cs ts
 cases_unfold : (cs : List Case) (ts : List Tok) → more_cases cs ts ≡ (if mark_at 93 ts then Done cs (drop 1 ts) else (case ts >>= λ c ts. more_cases (cs ++ c ∷ []) ts))
 unfolding more_cases cases
 cases_unfold cs ts = cases_settle (length ts) cs ts (omega arith) ∙ if_same (mark_at 93 ts) _ _ _ _ (λ _. refl) (λ _. then_same (case ts) _ _ (weaken (case_sound ts) (λ c a is.
-    settles_from (λ n. cases n (cs ++ c ∷ [])) (λ n ts fits. cases_settle n (cs ++ c ∷ []) ts fits) (length ts) a (omega (arith, case_takes c ts a is)))))
+    settles_from (λ n. cases n (cs ++ c ∷ [])) (λ n ts fits. cases_settle n (cs ++ c ∷ []) ts fits) (length ts) a (omega (arith, (case_leaves c ts a is).takes)))))
 
 cases_start : {C : List Tok → Type 0} (n : ℕ) (cs : List Case) → Starts (more_cases cs) Always C (FirstIs (sign n 93))
 unfolding mark_at
@@ -235,7 +235,7 @@ cases_complete : {C : List Tok → Type 0} (n m : ℕ) (cs : List Case) → Comp
 cases_complete n zero cs = completes_zero
 cases_complete {C} n (suc m) cs = completes_same (more_cases cs) (λ ts. if mark_at 93 ts then Done cs (drop 1 ts) else (case ts >>= λ c ts. more_cases (cs ++ c ∷ []) ts)) (cases_unfold cs)
     (completes_if (mark_at 93) (λ ts. Done cs (drop 1 ts)) (λ ts. case ts >>= λ c ts. more_cases (cs ++ c ∷ []) ts) (looks_mark 93) (completes_taken (λ _. cs) (looks_nothing cs) (λ t. tt))
-    (completes_both case (λ c ts. more_cases (cs ++ c ∷ []) ts) Always Always Any C n (suc m) m Always (λ ts. weaken (case_sound ts) (λ c a is. (tt, λ few. omega (arith, few, case_takes c ts a is)))) early_case ((comp_case n).completes (suc m))
+    (completes_both case (λ c ts. more_cases (cs ++ c ∷ []) ts) Always Always Any C n (suc m) m Always (λ ts. weaken (case_sound ts) (λ c a is. (tt, λ few. omega (arith, few, (case_leaves c ts a is).takes)))) early_case ((comp_case n).completes (suc m))
     (λ c _. cases_complete n m (cs ++ c ∷ [])) (λ c _. starts_weak (cases_start n (cs ++ c ∷ [])) (λ k _. tt))))
 
 comp_cases : {C : List Tok → Type 0} (n : ℕ) → Comp n (λ ts. cases (length ts) [] ts) Always C (FirstIs (sign n 93))

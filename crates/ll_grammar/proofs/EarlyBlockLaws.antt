@@ -17,7 +17,7 @@ use Rattle.ll_grammar.specs.Spells.{LeavesLine}
 use Rattle.ll_grammar.proofs.DoneLaws.{weaken}
 use Rattle.ll_grammar.proofs.StatementLaws.{SpellsItem, metadatum_sound, behind_line_is, statement_sound}
 use Rattle.ll_grammar.proofs.BlockLaws.{labelled_block_sound}
-use Rattle.ll_grammar.proofs.LengthLaws.{Takes, phi_takes, instr_takes, end_takes, statement_takes, block_takes}
+use Rattle.ll_grammar.proofs.LeavesLaws.{Leaves, phi_leaves, instr_leaves, end_leaves, statement_leaves, block_leaves}
 use Rattle.ll_grammar.proofs.StatementReadLaws.{behind_line_reads}
 use Rattle.ll_grammar.proofs.EarlyLaws.{IsEarly, Early, Looks, early_done, early_ran_out, early_taken, early_then, early_if, early_behind, early_within, settles_from, early_same, push_if}
 use Rattle.ll_grammar.proofs.EarlyFormLaws.{looks_mark, looks_kind, looks_name, looks_of_word, early_mark, early_name, early_metadatum, early_operation, early_assume, early_phi, early_terminator, then_same, if_same, behind_fits}
@@ -125,10 +125,10 @@ early_statement first = early_then (λ ts. bare_statement first (passed ts)) (λ
 
 -- ---- blocks
 
-pub item_takes : (first : Bool) (it : Item) (ts rest : List Tok) → SpellsItem first it ts rest → Takes ts rest
-item_takes first (item.Phi p) ts rest is = phi_takes p ts rest is.1
-item_takes first (item.Instr i) ts rest is = instr_takes i ts rest is
-item_takes first (item.End e) ts rest is = end_takes e ts rest is
+pub item_leaves : (first : Bool) (it : Item) (ts rest : List Tok) → SpellsItem first it ts rest → Leaves 1 ts rest
+item_leaves first (item.Phi p) ts rest is = phi_leaves p ts rest is.1
+item_leaves first (item.Instr i) ts rest is = instr_leaves i ts rest is
+item_leaves first (item.End e) ts rest is = end_leaves e ts rest is
 
 step_same : (n : ℕ) (label : List ℕ) (phis : List Phi) (body : List Instr) (it : Item) (a : List Tok)
     → ((phis : List Phi) (body : List Instr) → block_within n label phis body a ≡ block_within (suc n) label phis body a) → block_step (block_within n label) label phis body it a ≡ block_step (block_within (suc n) label) label phis body it a
@@ -145,7 +145,7 @@ unfolding block_within
 block_settle zero label phis body [] fits = sym (ap (λ r. r >>= block_step (block_within zero label) label phis body) (nothing_starts (is_empty body)))
 block_settle zero label phis body (t ∷ ts) fits = absurd (omega arith)
 block_settle (suc n) label phis body ts fits = then_same (statement (is_empty body) ts) _ _ (weaken (statement_sound (is_empty body) ts) (λ it a is.
-    step_same n label phis body it a (λ phis body. block_settle n label phis body a (omega (arith, fits, statement_takes (SpellsItem _ it) (item_takes _ it) ts a is)))))
+    step_same n label phis body it a (λ phis body. block_settle n label phis body a (omega (arith, fits, (statement_leaves (SpellsItem _ it) (item_leaves _ it) ts a is).takes)))))
 
 pub early_step : (more : List Phi → List Instr → List Tok → Read Block) (label : List ℕ) (phis : List Phi) (body : List Instr) (it : Item) → ((phis : List Phi) (body : List Instr) → IsEarly (more phis body)) → IsEarly (λ ts. block_step more label phis body it ts)
 early_step more label phis body (item.Phi p) ih = ih (phis ++ p ∷ []) body
@@ -177,7 +177,7 @@ unfolding blocks_within
 blocks_settle zero so_far [] fits = refl
 blocks_settle zero so_far (t ∷ ts) fits = absurd (omega arith)
 blocks_settle (suc n) so_far ts fits = if_same (is_empty ts) _ _ _ _ (λ _. refl) (λ _. then_same (labelled_block ts) _ _ (weaken (labelled_block_sound ts) (λ b a is.
-    blocks_settle n (so_far ++ b ∷ []) a (omega (arith, fits, ap length is.1.1, block_takes b is.0 a is.2)))))
+    blocks_settle n (so_far ++ b ∷ []) a (omega (arith, fits, ap length is.1.1, (block_leaves b is.0 a is.2).takes)))))
 
 pub looks_empty : Looks (λ (ts : List Tok). is_empty ts)
 looks_empty t a c = refl

@@ -25,7 +25,7 @@ use Rattle.ll_grammar.specs.Forms.{operand, typed, of_width, second, target, nex
 use Rattle.ll_grammar.proofs.DoneLaws.{OnDone, weaken}
 use Rattle.ll_grammar.proofs.FormLaws.{case_sound}
 use Rattle.ll_grammar.proofs.StatementLaws.{entry_sound, another_sound, Follows}
-use Rattle.ll_grammar.proofs.LengthLaws.{case_takes, entry_takes, metadata_take}
+use Rattle.ll_grammar.proofs.LeavesLaws.{case_leaves, entry_leaves, metadata_leave}
 use Rattle.ll_grammar.proofs.EarlyLaws.{IsEarly, Looks, early_done, early_ran_out, early_taken, early_stopped, early_then, early_if, early_some, early_take_if, early_take_some, early_behind, early_within, settles_from, early_same, push_if}
 
 -- ---- single tokens
@@ -252,14 +252,14 @@ early_another = early_if (mark_at 44) (λ ts. behind_comma (drop 1 ts)) (λ ts. 
 
 pub follows_take : (follows : Bool) (ts rest : List Tok) → Follows follows ts rest → length rest ≤ length ts
 follows_take true ts rest comma = omega (arith, ap length comma.1)
-follows_take false ts rest (pairs, are) = omega (arith, metadata_take pairs ts rest are)
+follows_take false ts rest (pairs, are) = omega (arith, (metadata_leave pairs ts rest are).takes)
 
 pub entries_settle : (w n : ℕ) (so_far : List PhiEntry) (ts : List Tok) → length ts ≤ n → entries w n so_far ts ≡ entries w (suc n) so_far ts
 unfolding entries entry mark mark_at
 entries_settle w zero so_far [] fits = refl
 entries_settle w zero so_far (t ∷ ts) fits = absurd (omega arith)
 entries_settle w (suc n) so_far ts fits = then_same (entry w ts) _ _ (weaken (entry_sound w ts) (λ e a is. then_same (another a) _ _ (weaken (another_sound a) (λ follows b next.
-    if_same follows _ _ _ _ (λ _. entries_settle w n (so_far ++ e ∷ []) b (omega (arith, fits, entry_takes w e ts a is, follows_take follows a b next))) (λ _. refl)))))
+    if_same follows _ _ _ _ (λ _. entries_settle w n (so_far ++ e ∷ []) b (omega (arith, fits, (entry_leaves w e ts a is).takes, follows_take follows a b next))) (λ _. refl)))))
 
 pub early_entries : (w n : ℕ) (so_far : List PhiEntry) → IsEarly (entries w n so_far)
 unfolding entries
@@ -295,7 +295,7 @@ pub cases_settle : (n : ℕ) (so_far : List Case) (ts : List Tok) → length ts 
 unfolding cases case width width_of word_at mark_at
 cases_settle zero so_far [] fits = refl
 cases_settle zero so_far (t ∷ ts) fits = absurd (omega arith)
-cases_settle (suc n) so_far ts fits = if_same (mark_at 93 ts) _ _ _ _ (λ _. refl) (λ _. then_same (case ts) _ _ (weaken (case_sound ts) (λ c a is. cases_settle n (so_far ++ c ∷ []) a (omega (arith, fits, case_takes c ts a is)))))
+cases_settle (suc n) so_far ts fits = if_same (mark_at 93 ts) _ _ _ _ (λ _. refl) (λ _. then_same (case ts) _ _ (weaken (case_sound ts) (λ c a is. cases_settle n (so_far ++ c ∷ []) a (omega (arith, fits, (case_leaves c ts a is).takes)))))
 
 pub early_cases : (n : ℕ) (so_far : List Case) → IsEarly (cases n so_far)
 unfolding cases

@@ -15,7 +15,7 @@ use Rattle.ll_grammar.specs.Reading.{Done, RanOut, ◌>>=◌, stopped, mark, wid
 use Rattle.ll_grammar.specs.Header.{is_among, words_within, words, other_literal, bounds, range_at, ret_type, ranged_result, result_type, param_range, param_type, param_of, closing, param, count_unnamed, params_within, params, to_body_within, to_body, function}
 use Rattle.ll_grammar.proofs.DoneLaws.{weaken}
 use Rattle.ll_grammar.proofs.HeaderLaws.{param_sound}
-use Rattle.ll_grammar.proofs.LengthLaws.{param_takes}
+use Rattle.ll_grammar.proofs.LeavesLaws.{param_leaves}
 use Rattle.ll_grammar.proofs.EarlyLaws.{IsEarly, Looks, early_done, early_ran_out, early_taken, early_stopped, early_then, early_if, early_take_if, early_take_some, early_behind, early_within, settles_from}
 use Rattle.ll_grammar.proofs.EarlyFormLaws.{looks_mark, looks_kind, looks_name, looks_of_word, looks_nothing, early_mark, early_keyword, early_name, early_width, early_one_width, early_literal, then_same, if_same, behind_fits}
 use Rattle.ll_grammar.proofs.EarlyBlockLaws.{early_blocks}
@@ -99,7 +99,7 @@ unfolding params_within
 params_settle zero so_far unnamed [] fits = sym (ap (λ r. r >>= λ p ts. if p.1 then params_within zero (so_far ++ p.0 ∷ []) (count_unnamed unnamed p.0.name) ts else Done (so_far ++ p.0 ∷ [], count_unnamed unnamed p.0.name) ts) (nothing_typed unnamed))
 params_settle zero so_far unnamed (t ∷ ts) fits = absurd (omega arith)
 params_settle (suc n) so_far unnamed ts fits = then_same (param unnamed ts) _ _ (weaken (param_sound unnamed ts) (λ p a is.
-    if_same p.1 _ _ _ _ (λ _. params_settle n (so_far ++ p.0 ∷ []) (count_unnamed unnamed p.0.name) a (omega (arith, fits, param_takes unnamed p.0 ts is.0 is.1, ap length is.2.1))) (λ _. refl)))
+    if_same p.1 _ _ _ _ (λ _. params_settle n (so_far ++ p.0 ∷ []) (count_unnamed unnamed p.0.name) a (omega (arith, fits, (param_leaves unnamed p.0 ts is.0 is.1).takes, ap length is.2.1))) (λ _. refl)))
 
 pub early_params_within : (n : ℕ) (so_far : List Param) (unnamed : ℕ) → IsEarly (params_within n so_far unnamed)
 unfolding params_within

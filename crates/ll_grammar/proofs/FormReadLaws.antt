@@ -17,7 +17,7 @@ use Rattle.ll_grammar.specs.Forms.{operand, typed, of_width, second, target, nex
 use Rattle.ll_grammar.specs.Spells.{IsWord, IsMark, IsType, IsLiteral, IsOperand, IsTyped, IsSecond, IsTarget, IsNextTarget, SpellsCase, SpellCases, SpellsEnd}
 use Rattle.ll_grammar.proofs.TokenLaws.{bytes_same}
 use Rattle.ll_grammar.proofs.TokenReadLaws.{then_reads, if_reads, else_reads, behind_first, at_token, at_word, at_kind, at_mark, at_name, mark_there, kind_there, type_apart, mark_reads, keyword_reads, name_reads, width_reads, one_width_reads, literal_reads}
-use Rattle.ll_grammar.proofs.LengthLaws.{case_takes}
+use Rattle.ll_grammar.proofs.LeavesLaws.{case_leaves}
 
 -- a literal is neither a local name nor `poison`
 literal_apart : (ts rest : List Tok) (w n : ℕ) → IsLiteral w n ts rest → (kind_at kinds.Local ts ≡ false) × (bytes_eq (word_at ts) (codes "poison") ≡ false)
@@ -75,10 +75,10 @@ cases_reads [] zero so_far ts b rest few here closes = absurd (omega (arith, few
 cases_reads [] (suc most) so_far ts b rest few here closes =
     if_reads (mark_at 93 ts) _ _ (ap (mark_at 93) here ∙ mark_there b rest 93 closes)
     (ap (λ (l : List Tok). Done so_far l) (ap (λ (l : List Tok). drop 1 l) here ∙ behind_first b rest closes.0 closes.1) ∙ ap (λ (cs : List Case). Done cs rest) (sym (append-nil so_far)))
-cases_reads (c ∷ cs) zero so_far ts b rest few (a, is, more) closes = absurd (omega (arith, few, case_takes c ts a is))
+cases_reads (c ∷ cs) zero so_far ts b rest few (a, is, more) closes = absurd (omega (arith, few, (case_leaves c ts a is).takes))
 cases_reads (c ∷ cs) (suc most) so_far ts b rest few (a, is, more) closes =
     else_reads (mark_at 93 ts) _ _ (at_mark ts _ is.2.0.0 is.2.0.1 kinds.Word is.2.0.2 93)
-    (then_reads _ _ (case_reads c ts a is) (cases_reads cs most (so_far ++ c ∷ []) a b rest (omega (arith, few, case_takes c ts a is)) more closes ∙ ap (λ (cs : List Case). Done cs rest) (append_assoc so_far (c ∷ []) cs)))
+    (then_reads _ _ (case_reads c ts a is) (cases_reads cs most (so_far ++ c ∷ []) a b rest (omega (arith, few, (case_leaves c ts a is).takes)) more closes ∙ ap (λ (cs : List Case). Done cs rest) (append_assoc so_far (c ∷ []) cs)))
 
 -- what stands behind the word of a terminator
 abbrev pub word_of_end : End → List ℕ

@@ -25,8 +25,9 @@ use Rattle.ll_tree.specs.declared.op.Flags.{Flags}
 use Rattle.ll_tree.specs.Formed.{IsWidth, FitsOperand, FitsRange, HasStrictRange, IsFormedParam, IsFormedRet, IsFormedPhi, IsFormedOp, HasFormedName, IsFormedInstr, IsFormedCase, IsFormedEnd, IsFormedBlock, IsFormed}
 use Rattle.ll_grammar.specs.Tokens.{Tok, AreNamed}
 use Rattle.ll_grammar.specs.Spells as spells
-use Rattle.ll_grammar.specs.Spells.{IsNameOf, IsType, IsLiteral, IsOperand, IsTyped, IsStatement, SpellsBin, SpellsOp, SpellsInstr, SpellsResultOf, is_called, SpellsPhi, SpellEntries, SpellsEnd, SpellsCase, SpellCases, SpellPhis, SpellInstrs, SpellsBlock, SpellBlocks, SpellsEntryBlock, SpellBody, SpellsAttributes, SpellsResult, is_some, SpellsParam, SpellParams, unnamed_with, SpellsFunction}
-use Rattle.ll_grammar.proofs.KeptLaws.{tail, same, behind_others, passed_keep, statement_keeps, instr_keeps, block_keeps, phis_keep, result_keeps, params_keep}
+use Rattle.ll_tree.specs.Words.{is_called}
+use Rattle.ll_grammar.specs.Spells.{IsNameOf, IsType, IsLiteral, IsOperand, IsTyped, IsStatement, SpellsBin, SpellsOp, SpellsInstr, SpellsResultOf, SpellsPhi, SpellEntries, SpellsEnd, SpellsCase, SpellCases, SpellPhis, SpellInstrs, SpellsBlock, SpellBlocks, SpellsEntryBlock, SpellBody, SpellsAttributes, SpellsResult, is_some, SpellsParam, SpellParams, unnamed_with, SpellsFunction}
+use Rattle.ll_grammar.proofs.LeavesLaws.{one, none, others, ◌▹◌, passed_leave, statement_leaves, instr_leaves, block_leaves, phis_leave, result_leaves, params_leave}
 
 -- ---- numbers
 
@@ -111,27 +112,27 @@ phis_formed (p ∷ ps) ts rest (a, is, more) = All-cons IsFormedPhi p ps (phi_fo
 instrs_formed : (body : List Instr) (ts rest : List Tok) → AreNamed ts → SpellInstrs body ts rest → All IsFormedInstr body
 instrs_formed [] ts rest named is = no_items IsFormedInstr
 instrs_formed (i ∷ body) ts rest named (a, is, more) =
-    All-cons IsFormedInstr i body (instr_formed i is.2 is.3 (passed_keep is.0 ts is.2 is.4 named) is.6)
-    (instrs_formed body a rest (statement_keeps (λ ts rest. SpellsResultOf i.name i.op ts rest) (instr_keeps i) ts a is named) more)
+    All-cons IsFormedInstr i body (instr_formed i is.2 is.3 ((passed_leave is.0 ts is.2 is.4).keeps named) is.6)
+    (instrs_formed body a rest ((statement_leaves (λ ts rest. SpellsResultOf i.name i.op ts rest) (instr_leaves i) ts a is).keeps named) more)
 
 block_formed : (b : Block) (ts rest : List Tok) → AreNamed ts → SpellsBlock b ts rest → IsFormedBlock b
 block_formed b ts rest named (a, c, ps, body, ends) = record {
   phis = phis_formed b.phis ts a ps;
-  body = instrs_formed b.body a c (phis_keep b.phis ts a ps named) body;
+  body = instrs_formed b.body a c ((phis_leave b.phis ts a ps).keeps named) body;
   ends = end_formed b.end ends.2 ends.3 ends.6;
 }
 
 blocks_formed : (bs : List Block) (ts rest : List Tok) → AreNamed ts → SpellBlocks bs ts rest → All IsFormedBlock bs
 blocks_formed [] ts rest named is = no_items IsFormedBlock
 blocks_formed (b ∷ bs) ts rest named (a, c, label, is, more) =
-    let behind = tail label.1 named in
-    All-cons IsFormedBlock b bs (block_formed b a c behind is) (blocks_formed bs c rest (block_keeps b a c is behind) more)
+    let behind = (one label.1).keeps named in
+    All-cons IsFormedBlock b bs (block_formed b a c behind is) (blocks_formed bs c rest ((block_leaves b a c is).keeps behind) more)
 
 entry_formed : (unwritten : List ℕ) (b : Block) (ts rest : List Tok) → AreNamed ts → SpellsEntryBlock unwritten b ts rest → IsFormedBlock b × AreNamed rest
 entry_formed unwritten b ts rest named (inl (lines, a, c, passes, label, is)) =
-    let behind = tail label.1 (passed_keep lines ts a passes named) in
-    (block_formed b c rest behind is, block_keeps b c rest is behind)
-entry_formed unwritten b ts rest named (inr (label, is)) = (block_formed b ts rest named is, block_keeps b ts rest is named)
+    let behind = (passed_leave lines ts a passes ▹ one label.1).keeps named in
+    (block_formed b c rest behind is, (block_leaves b c rest is).keeps behind)
+entry_formed unwritten b ts rest named (inr (label, is)) = (block_formed b ts rest named is, (block_leaves b ts rest is).keeps named)
 
 body_formed : (unwritten : List ℕ) (bs : List Block) (ts rest : List Tok) → AreNamed ts → SpellBody unwritten bs ts rest → (1 ≤ length bs) × All IsFormedBlock bs
 body_formed unwritten [] ts rest named none = absurd none
@@ -165,11 +166,9 @@ params_formed unnamed (p ∷ next ∷ ps) ts rest (a, b, is, comma, more) = All-
 
 pub function_formed : (f : Func) (ts : List Tok) → AreNamed ts → SpellsFunction f ts → IsFormed f
 function_formed f ts named s =
-    let result = tail s.is_define.1 named in
-    let name_ = result_keeps f.ret f.ret_noundef f.ret_range s.result s.name s.is_result result in
-    let params_ = tail s.opens.1 (tail s.is_name.1 name_) in
-    let brace = behind_others s.between s.brace (same s.is_between (params_keep 0 f.params s.params s.rest s.are_params params_)) in
-    let body = body_formed _ f.blocks s.body [] (tail s.opens_body.1 brace) s.is_body in
+    let params = one s.is_define.1 ▹ result_leaves f.ret f.ret_noundef f.ret_range s.result s.name s.is_result ▹ one s.is_name.1 ▹ one s.opens.1 in
+    let brace = params_leave 0 f.params s.params s.rest s.are_params ▹ none s.is_between ▹ others s.between s.brace ▹ one s.opens_body.1 in
+    let body = body_formed _ f.blocks s.body [] ((params ▹ brace).keeps named) s.is_body in
     record {
       some_block = body.0;
       ret = ret_formed f.ret f.ret_noundef f.ret_range s.result s.name s.is_result;

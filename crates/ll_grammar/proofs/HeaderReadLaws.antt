@@ -24,7 +24,7 @@ use Rattle.ll_grammar.specs.Spells.{IsWord, IsMark, IsNameOf, IsType, IsLiteral,
 use Rattle.ll_grammar.proofs.TokenLaws.{both_true, same_bytes, bytes_same, same_kind, none_is}
 use Rattle.ll_grammar.proofs.FlagLaws.{or_false, or_assoc}
 use Rattle.ll_grammar.proofs.HeaderLaws.{among_has, has_append, closing_mark}
-use Rattle.ll_grammar.proofs.LengthLaws.{words_take, param_takes}
+use Rattle.ll_grammar.proofs.LeavesLaws.{words_leave, param_leaves}
 use Rattle.ll_grammar.proofs.TokenReadLaws.{then_reads, if_reads, else_reads, take_if_reads, take_some_reads, behind_first, at_token, at_word, at_kind, at_mark, at_name, mark_there, kind_there, other_mark, type_apart, mark_reads, keyword_reads, name_reads, width_reads, has_width_reads, one_width_reads, literal_at_reads, literal_reads}
 use Rattle.ll_grammar.proofs.BlockReadLaws.{blocks_reads}
 
@@ -47,7 +47,7 @@ words_within_reads (w ∷ ws) (suc most) those noundef ts rest few ((a, is, more
 
 pub words_reads : (ws those : List (List ℕ)) (noundef : Bool) (ts rest : List Tok) → AreAttributes those ws ts rest → is_among those (word_at rest) ≡ false → words those noundef ts ≡ Done (noundef || has (codes "noundef") ws) rest
 unfolding words
-words_reads ws those noundef ts rest are none = words_within_reads ws (length ts) those noundef ts rest (omega (arith, words_take ws ts rest are.0)) are none
+words_reads ws those noundef ts rest are none = words_within_reads ws (length ts) those noundef ts rest (omega (arith, (words_leave ws ts rest are.0).takes)) are none
 
 pub no_width : List ℕ → Bool
 no_width word = option_map_or (λ w. false) (width_of word) true
@@ -172,12 +172,12 @@ param_reads unnamed p more ts a rest (noundef, b, c, t, attributes, strict, inr 
 pub params_within_reads : (p : Param) (more : List Param) (most : ℕ) (so_far : List Param) (unnamed : ℕ) (ts rest : List Tok) → length ts ≤ most → SpellParams unnamed (p ∷ more) ts rest
     → params_within most so_far unnamed ts ≡ Done (so_far ++ p ∷ more, spells.count_unnamed unnamed (p ∷ more)) rest
 unfolding params_within
-params_within_reads p [] zero so_far unnamed ts rest few (a, is, closes) = absurd (omega (arith, few, param_takes unnamed p ts a is))
-params_within_reads p (next ∷ more) zero so_far unnamed ts rest few (a, b, is, comma, are) = absurd (omega (arith, few, param_takes unnamed p ts a is))
+params_within_reads p [] zero so_far unnamed ts rest few (a, is, closes) = absurd (omega (arith, few, (param_leaves unnamed p ts a is).takes))
+params_within_reads p (next ∷ more) zero so_far unnamed ts rest few (a, b, is, comma, are) = absurd (omega (arith, few, (param_leaves unnamed p ts a is).takes))
 params_within_reads p [] (suc most) so_far unnamed ts rest few (a, is, closes) = then_reads _ _ (param_reads unnamed p false ts a rest is closes) refl
 params_within_reads p (next ∷ more) (suc most) so_far unnamed ts rest few (a, b, is, comma, are) =
     then_reads _ _ (param_reads unnamed p true ts a b is comma)
-    (params_within_reads next more most (so_far ++ p ∷ []) (unnamed_with unnamed p) b rest (omega (arith, few, param_takes unnamed p ts a is, ap length comma.1)) are
+    (params_within_reads next more most (so_far ++ p ∷ []) (unnamed_with unnamed p) b rest (omega (arith, few, (param_leaves unnamed p ts a is).takes, ap length comma.1)) are
     ∙ ap (λ (ps : List Param). Done (ps, spells.count_unnamed (unnamed_with unnamed p) (next ∷ more)) rest) (append_assoc so_far (p ∷ []) (next ∷ more)))
 
 type_no_mark : (w : ℕ) (ts rest : List Tok) → IsType w ts rest → mark_at 41 ts ≡ false

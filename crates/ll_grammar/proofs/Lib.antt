@@ -10,8 +10,7 @@ pub mod OpLaws
 pub mod StatementLaws
 pub mod BlockLaws
 pub mod HeaderLaws
-pub mod LengthLaws
-pub mod KeptLaws
+pub mod LeavesLaws
 pub mod FormedLaws
 pub mod TokenReadLaws
 pub mod FormReadLaws

@@ -20,7 +20,8 @@ use Rattle.ll_grammar.specs.Tokens.{Tok, is_empty, is_kind, has_prefix, word_at,
 use Rattle.ll_grammar.specs.Words.{binary_of, cast_of, pred_of, callee_of, behind, has_width, typed_callee, takes, cast_takes, compare_takes, no_flags}
 use Rattle.ll_grammar.specs.Reading.{take_some, keyword}
 use Rattle.ll_grammar.specs.Forms.{binary, compare, conversion, select, is_call_word, call_words, callee_at, called, last_argument, close_call, value_call, assume_at, assume_callee, void, assume, operation}
-use Rattle.ll_grammar.specs.Spells.{IsWord, IsNameOf, IsCall, IsGroup, IsNoGroup, ClosesCall, BeginsCall, SpellsBin, SpellsOp, word_of, is_called, cast_word, pred_word}
+use Rattle.ll_tree.specs.Words.{is_called, cast_word, pred_word}
+use Rattle.ll_grammar.specs.Spells.{IsWord, IsNameOf, IsCall, IsGroup, IsNoGroup, ClosesCall, BeginsCall, SpellsBin, SpellsOp, word_of}
 use Rattle.ll_grammar.proofs.DoneLaws.{OnDone, on_done, on_then, on_if, on_some, on_stopped, on_take_if, on_take_some, weaken}
 use Rattle.ll_grammar.proofs.TokenLaws.{same_bytes, same_kind, kind_same, both_true, word_is, kind_is, width_of_is, none_is}
 use Rattle.ll_grammar.proofs.FormLaws.{mark_sound, keyword_sound, width_sound, one_width_sound, literal_sound, typed_sound, of_width_sound, second_sound, has_width_is}

@@ -23,11 +23,12 @@ use Rattle.ll_grammar.specs.Tokens.{Tok, is_kind, has_prefix, word_at, kind_at, 
 use Rattle.ll_grammar.specs.Words.{binary_of, cast_of, pred_of, callee_of, behind, takes, cast_takes, compare_takes, no_flags, add_flag}
 use Rattle.ll_grammar.specs.Reading.{Done, keyword}
 use Rattle.ll_grammar.specs.Forms.{flags, flags_within, binary, compare, conversion, select, is_call_word, call_words, callee_at, called, last_argument, close_call, value_call, assume_at, assume_callee, void, assume, operation}
-use Rattle.ll_grammar.specs.Spells.{IsWord, IsMark, IsNameOf, IsType, IsLiteral, IsTyped, IsSecond, AreWords, AreOnce, has, flags_of, flag_words, AreFlags, IsCall, ClosesCall, BeginsCall, SpellsBin, SpellsOp, word_of, is_called, cast_word, pred_word}
+use Rattle.ll_tree.specs.Words.{is_called, cast_word, pred_word}
+use Rattle.ll_grammar.specs.Spells.{IsWord, IsMark, IsNameOf, IsType, IsLiteral, IsTyped, IsSecond, AreWords, AreOnce, has, flags_of, flag_words, AreFlags, IsCall, ClosesCall, BeginsCall, SpellsBin, SpellsOp, word_of}
 use Rattle.ll_grammar.proofs.TokenLaws.{both_true, same_kind, bytes_same, width_of_reads}
 use Rattle.ll_grammar.proofs.FlagLaws.{tests, adds, once_new}
 use Rattle.ll_grammar.proofs.OpLaws.{IsValued, name_of, IsCallee}
-use Rattle.ll_grammar.proofs.LengthLaws.{words_take}
+use Rattle.ll_grammar.proofs.LeavesLaws.{words_leave}
 use Rattle.ll_grammar.proofs.TokenReadLaws.{then_reads, if_reads, else_reads, take_if_reads, take_some_reads, behind_first, at_word, at_name, kind_there, type_word, mark_reads, keyword_reads, width_reads, one_width_reads, literal_reads}
 use Rattle.ll_grammar.proofs.FormReadLaws.{typed_reads, of_width_reads, second_reads}
 
@@ -69,7 +70,7 @@ flags_within_reads (word ∷ words) (suc most) allowed before ts rest few (a, is
 pub flags_reads : (allowed f : Flags) (ts rest : List Tok) → AreFlags allowed f ts rest → flag_words allowed (word_at rest) ≡ false → flags allowed ts ≡ Done f rest
 unfolding flags
 flags_reads allowed f ts rest (words, are, all, once, is) none =
-    flags_within_reads words (length ts) allowed [] ts rest (omega (arith, words_take words ts rest are)) are all once none ∙ ap (λ (f : Flags). Done f rest) (sym is)
+    flags_within_reads words (length ts) allowed [] ts rest (omega (arith, (words_leave words ts rest are).takes)) are all once none ∙ ap (λ (f : Flags). Done f rest) (sym is)
 
 type_no_flag : (allowed : Flags) (w : ℕ) (ts rest : List Tok) → IsType w ts rest → flag_words allowed (word_at ts) ≡ false
 type_no_flag allowed w ts rest t = let none : flag_words allowed (codes "i" ++ decimal w) ≡ false = simp tests in ap (flag_words allowed) (type_word ts rest w t) ∙ none

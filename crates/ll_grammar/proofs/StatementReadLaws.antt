@@ -22,7 +22,7 @@ use Rattle.ll_grammar.specs.Spells.{IsWord, IsMark, IsNameOf, IsType, SpellsEntr
 use Rattle.ll_grammar.proofs.TokenLaws.{both_true, bytes_same}
 use Rattle.ll_grammar.proofs.OpLaws.{IsValued}
 use Rattle.ll_grammar.proofs.StatementLaws.{SpellsItem}
-use Rattle.ll_grammar.proofs.LengthLaws.{metadata_take, passed_take, entry_takes}
+use Rattle.ll_grammar.proofs.LeavesLaws.{metadata_leave, passed_leave, entry_leaves}
 use Rattle.ll_grammar.proofs.TokenReadLaws.{then_reads, if_reads, else_reads, behind_first, at_word, at_kind, at_mark, at_name, mark_there, kind_there, mark_reads, name_reads, metadatum_reads, width_reads}
 use Rattle.ll_grammar.proofs.FormReadLaws.{operand_reads, terminator_reads, word_of_end, end_word}
 use Rattle.ll_grammar.proofs.OpReadLaws.{operation_reads, operation_word, assume_reads, call_word, call_is_word}
@@ -41,7 +41,7 @@ metadata_within_reads (suc n) (suc most) ts rest few (c, m, k, a, is, ck, ct, mk
 
 pub metadata_reads : (n : ℕ) (ts rest : List Tok) → AreMetadata n ts rest → mark_at 44 rest ≡ false → metadata ts ≡ Done (tt {0}) rest
 unfolding metadata
-metadata_reads n ts rest are none = metadata_within_reads n (length ts) ts rest (omega (arith, metadata_take n ts rest are)) are none
+metadata_reads n ts rest are none = metadata_within_reads n (length ts) ts rest (omega (arith, (metadata_leave n ts rest are).takes)) are none
 
 -- ---- phis
 
@@ -79,13 +79,13 @@ entries_reads [] w most so_far ts b rest n few none meta no_comma = absurd none
 entries_reads (e ∷ es) w zero so_far ts b rest n few are meta no_comma = absurd (go es are)
   where
     go : (es : List PhiEntry) → SpellEntries w (e ∷ es) ts b → ⊥
-    go [] is = omega (arith, few, entry_takes w e ts b is)
-    go (next ∷ es) (a, c, is, comma, more) = omega (arith, few, entry_takes w e ts a is)
+    go [] is = omega (arith, few, (entry_leaves w e ts b is).takes)
+    go (next ∷ es) (a, c, is, comma, more) = omega (arith, few, (entry_leaves w e ts a is).takes)
 entries_reads (e ∷ []) w (suc most) so_far ts b rest n few is meta no_comma =
     let l = another_ends n b rest meta no_comma in
     (l.0, l.1, then_reads _ _ (entry_reads w e ts b is) (then_reads _ _ l.2 refl), l.3)
 entries_reads (e ∷ next ∷ es) w (suc most) so_far ts b rest n few (a, c, is, comma, more) meta no_comma =
-    let l = entries_reads (next ∷ es) w most (so_far ++ e ∷ []) c b rest n (omega (arith, few, entry_takes w e ts a is, ap length comma.1)) more meta no_comma in
+    let l = entries_reads (next ∷ es) w most (so_far ++ e ∷ []) c b rest n (omega (arith, few, (entry_leaves w e ts a is).takes, ap length comma.1)) more meta no_comma in
     let o = opens es more in
     (l.0, l.1, then_reads _ _ (entry_reads w e ts a is) (then_reads _ _ (another_follows a c o.0 comma o.1) (l.2 ∙ ap (λ (es : List PhiEntry). Done es l.0) (append_assoc so_far (e ∷ []) (next ∷ es)))), l.3)
   where
@@ -194,7 +194,7 @@ passed_within_reads (suc n) (suc most) ts rest few (t, others, a, is, debug, all
 
 pub passed_reads : (n : ℕ) (ts rest : List Tok) → ArePassed n ts rest → debug_at rest ≡ false → passed ts ≡ rest
 unfolding passed
-passed_reads n ts rest are none = passed_within_reads n (length ts) ts rest (omega (arith, passed_take n ts rest are)) are none
+passed_reads n ts rest are none = passed_within_reads n (length ts) ts rest (omega (arith, (passed_leave n ts rest are).takes)) are none
 
 -- ---- how a statement begins
 

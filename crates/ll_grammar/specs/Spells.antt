@@ -26,11 +26,9 @@ use Rattle.ll_tree.specs.declared.op.Op.{Op}
 use Rattle.ll_tree.specs.declared.op.Op.TheVariants as op
 use Rattle.ll_tree.specs.declared.op.Flags.{Flags}
 use Rattle.ll_tree.specs.declared.op.BinKind.{BinKind}
-use Rattle.ll_tree.specs.declared.op.BinKind.TheVariants as bin
 use Rattle.ll_tree.specs.declared.op.CastKind.{CastKind}
-use Rattle.ll_tree.specs.declared.op.CastKind.TheVariants as cast
 use Rattle.ll_tree.specs.declared.op.Pred.{Pred}
-use Rattle.ll_tree.specs.declared.op.Pred.TheVariants as pred
+use Rattle.ll_tree.specs.Words.{is_called, bin_word, cast_word, pred_word}
 use Rattle.ll_grammar.specs.Tokens.{Tok, held_name, has_prefix, is_debug, debug_at}
 use Rattle.ll_grammar.specs.Words.{takes, cast_takes, compare_takes}
 
@@ -135,47 +133,7 @@ AreFlags allowed f ts rest = (words : List (List ℕ)) × AreWords words ts rest
 
 -- the word of an operation, or the name of the function that computes it without its type
 abbrev pub word_of : BinKind → List ℕ
-word_of bin.Add = codes "add"
-word_of bin.Sub = codes "sub"
-word_of bin.Mul = codes "mul"
-word_of bin.Shl = codes "shl"
-word_of bin.Lshr = codes "lshr"
-word_of bin.Ashr = codes "ashr"
-word_of bin.And = codes "and"
-word_of bin.Or = codes "or"
-word_of bin.Xor = codes "xor"
-word_of bin.Udiv = codes "udiv"
-word_of bin.Sdiv = codes "sdiv"
-word_of bin.Urem = codes "urem"
-word_of bin.Srem = codes "srem"
-word_of bin.Smin = codes "llvm.smin."
-word_of bin.Smax = codes "llvm.smax."
-word_of bin.Umin = codes "llvm.umin."
-word_of bin.Umax = codes "llvm.umax."
-
-abbrev pub is_called : BinKind → Bool
-is_called bin.Smin = true
-is_called bin.Smax = true
-is_called bin.Umin = true
-is_called bin.Umax = true
-is_called kind = false
-
-abbrev pub cast_word : CastKind → List ℕ
-cast_word cast.Zext = codes "zext"
-cast_word cast.Sext = codes "sext"
-cast_word cast.Trunc = codes "trunc"
-
-abbrev pub pred_word : Pred → List ℕ
-pred_word pred.Eq = codes "eq"
-pred_word pred.Ne = codes "ne"
-pred_word pred.Ugt = codes "ugt"
-pred_word pred.Uge = codes "uge"
-pred_word pred.Ult = codes "ult"
-pred_word pred.Ule = codes "ule"
-pred_word pred.Sgt = codes "sgt"
-pred_word pred.Sge = codes "sge"
-pred_word pred.Slt = codes "slt"
-pred_word pred.Sle = codes "sle"
+word_of kind = if is_called kind then codes "llvm." ++ (bin_word kind ++ codes ".") else bin_word kind
 
 -- `call`, `tail call` or `notail call`
 abbrev pub IsCall : (ts rest : List Tok) → Type 0
