@@ -1,40 +1,36 @@
 -- The first line of a text, and where lines begin.
-use Rattle.std.proofs.Common.{◌≡◌, ℕ, zero, suc, ◌+◌, ◌-◌, ◌<◌, ◌≤◌, Bool, true, false, not, cond, eqb, List, [], ◌∷◌, length, take, drop, refl, sym, ap, ◌∙◌, arith}
-use Rattle.std.specs.List.{prefix_len}
+use Rattle.std.proofs.Common.{◌≡◌, ℕ, zero, suc, ◌+◌, ◌-◌, ◌<◌, ◌≤◌, Bool, true, false, cond, eqb, List, [], ◌∷◌, length, take, drop, get_or, refl, sym, ap, ◌∙◌, arith}
 use Rattle.std.proofs.lemmas.Bool.{eqb-true}
 use Rattle.std.proofs.lemmas.List.{drop-drop, length-drop, drop_all, length-take-le}
 use Rattle.ll_reader.specs.declared.lines.LineKind.{LineKind}
-use Rattle.ll_reader.specs.FileLines.{onto_first, lines, line_start, is_inside, first_len, is_of, count_before, IsAt, StandBefore}
+use Rattle.ll_reader.specs.FileLines.{onto_first, lines, line_start, first_len, is_of, count_before, IsAt, StandBefore}
 
 -- ---- the first line
 
--- its length by the count of the bytes before the first LF
-len_before_end : (bytes : List ℕ) → prefix_len is_inside bytes < length bytes → prefix_len is_inside bytes + 1 ≡ first_len bytes
+-- an LF at this place
+abbrev EndsAt : List ℕ → ℕ → Type 0
+EndsAt bytes at = eqb (get_or bytes at 0) 10 ≡ true
+
+-- the first LF ends the line
+pub len_with_end : (bytes : List ℕ) (at : ℕ) → at < length bytes → EndsAt bytes at → ((k : ℕ) → 0 ≤ k → k < at → EndsAt bytes k → ⊥) → at + 1 ≡ first_len bytes
 unfolding first_len
-len_before_end [] some = absurd (omega arith)
-len_before_end (b ∷ rest) some = go (eqb b 10) (len_before_end rest) some
+len_with_end [] at within is none = absurd (omega arith)
+len_with_end (b ∷ rest) zero within is none = ap (λ (t : Bool). cond t 1 (suc (first_len rest))) (sym is)
+len_with_end (b ∷ rest) (suc at) within is none =
+    go (eqb b 10) (none 0 (omega arith) (omega arith)) (len_with_end rest at (omega arith) is (λ k low below. none (suc k) (omega arith) (omega arith)))
   where
-    go : (t : Bool) → (prefix_len is_inside rest < length rest → prefix_len is_inside rest + 1 ≡ first_len rest) → cond (not t) (1 + prefix_len is_inside rest) 0 < suc (length rest)
-        → cond (not t) (1 + prefix_len is_inside rest) 0 + 1 ≡ cond t 1 (suc (first_len rest))
-    go true ih fits = refl
-    go false ih fits = let e = ih (omega arith) in omega (arith, e)
+    go : (t : Bool) → (t ≡ true → ⊥) → at + 1 ≡ first_len rest → suc at + 1 ≡ cond t 1 (suc (first_len rest))
+    go true never ih = absurd (never refl)
+    go false never ih = omega (arith, ih)
 
-len_to_end : (bytes : List ℕ) → length bytes ≤ prefix_len is_inside bytes → length bytes ≡ first_len bytes
+pub len_without_end : (bytes : List ℕ) → ((k : ℕ) → 0 ≤ k → k < length bytes → EndsAt bytes k → ⊥) → length bytes ≡ first_len bytes
 unfolding first_len
-len_to_end [] all = refl
-len_to_end (b ∷ rest) all = go (eqb b 10) (len_to_end rest) all
+len_without_end [] none = refl
+len_without_end (b ∷ rest) none = go (eqb b 10) (none 0 (omega arith) (omega arith)) (len_without_end rest (λ k low below. none (suc k) (omega arith) (omega arith)))
   where
-    go : (t : Bool) → (length rest ≤ prefix_len is_inside rest → length rest ≡ first_len rest) → suc (length rest) ≤ cond (not t) (1 + prefix_len is_inside rest) 0
-        → suc (length rest) ≡ cond t 1 (suc (first_len rest))
-    go true ih fits = absurd (omega arith)
-    go false ih fits = ap suc (ih (omega arith))
-
-module _ (bytes : List ℕ) (inside : ℕ) (inside_is : inside ≡ prefix_len is_inside bytes) where
-  pub len_with_end : inside < length bytes → inside + 1 ≡ first_len bytes
-  len_with_end fits = rw inside_is (len_before_end bytes (rw inside_is at fits))
-
-  pub len_without_end : length bytes ≤ inside → length bytes ≡ first_len bytes
-  len_without_end all = len_to_end bytes (rw inside_is at all)
+    go : (t : Bool) → (t ≡ true → ⊥) → length rest ≡ first_len rest → suc (length rest) ≡ cond t 1 (suc (first_len rest))
+    go true never ih = absurd (never refl)
+    go false never ih = ap suc ih
 
 pub len_within : (bytes : List ℕ) → first_len bytes ≤ length bytes
 unfolding first_len

@@ -45,10 +45,6 @@ abbrev pub is_of : LineKind → List ℕ → Bool
 is_of kinds.Define line = is_define line
 is_of kinds.Closing line = is_closing line
 
--- a byte that ends no line
-abbrev pub is_inside : ℕ → Bool
-is_inside byte = not (byte == 10)
-
 -- how many bytes the first line has
 unfoldable pub first_len : List ℕ → ℕ
 first_len [] = 0

@@ -1,8 +1,9 @@
 //! The lines of a file.
 
 ghost use Rattle.std.specs.Prelude.{◌≡◌, ◌<◌, ◌≤◌, ◌^◌, length};
-ghost use Rattle.std.specs.List.{prefix_len};
-ghost use Rattle.ll_reader.specs.FileLines.{has_prefix, is_define, is_closing, is_inside, is_of, first_len, StandBefore};
+ghost use Rattle.ll_reader.specs.FileLines.{has_prefix, is_define, is_closing, is_of, first_len, StandBefore};
+
+use memchr::memchr;
 
 /// A line that begins the text of a function, or one that ends it.
 #[derive(Clone, Copy)]
@@ -53,26 +54,15 @@ fn is_of(kind: LineKind, line: &[u8]) -> bool
     }
 }
 
-/// How many bytes stand before the first LF.
-fn inside_len(bytes: &[u8]) -> usize
-    ensures len { result ≡ prefix_len is_inside bytes.now }
-    ensures bound { result ≤ length bytes.now }
-{
-    bytes.iter().take_while(|byte| **byte != b'\n').count()
-}
-
 /// How many bytes the first line has, its LF included.
-#[tactic(auto, unfolding(crate::specs::FileLines::first_len))]
 pub fn line_len(bytes: &[u8]) -> usize
     requires { length bytes.now < 2 ^ 31 }
     ensures len { result ≡ first_len bytes.now }
     ensures within { result ≤ length bytes.now }
 {
-    let inside = inside_len(bytes);
-    if inside < bytes.len() {
-        inside + 1
-    } else {
-        bytes.len()
+    match memchr(b'\n', bytes) {
+        Some(inside) => inside + 1,
+        None => bytes.len(),
     }
 }
 
