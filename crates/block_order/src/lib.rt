@@ -7,6 +7,3 @@ mod order;
 mod ready;
 
 pub use order::{Ordered, Places, kept_order};
-
-#[cfg(test)]
-mod tests;

@@ -14,6 +14,3 @@ pub use edge::{Edge, Edges};
 pub use path::path_to;
 pub use reach::mark_reached;
 pub use sorting::sorted;
-
-#[cfg(test)]
-mod tests;

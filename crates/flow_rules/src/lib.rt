@@ -13,6 +13,3 @@ mod usage;
 
 pub use flow::{Flow, FlowFault};
 pub use usage::Use;
-
-#[cfg(test)]
-mod tests;

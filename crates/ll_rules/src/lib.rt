@@ -11,6 +11,3 @@ pub use limits::{
     Limit, MAX_BITS, MAX_BLOCKS, MAX_CASES, MAX_EDGES, MAX_ENTRIES, MAX_PARAMS, MAX_VALUES,
     TooMany, first_excess,
 };
-
-#[cfg(test)]
-mod tests;
