@@ -4,6 +4,3 @@
 mod lists;
 
 pub use lists::FlatLists;
-
-#[cfg(test)]
-mod tests;

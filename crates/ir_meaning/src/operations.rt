@@ -111,6 +111,3 @@ pub fn abs(strict: bool, width: u32, a: Val) -> Val
     };
     absolute(strict, width, a)
 }
-
-#[cfg(test)]
-mod tests;

@@ -10,6 +10,3 @@ mod words;
 
 pub use line::{Kind, Line, LineRead, Multiple, Multiples, Version, read};
 pub use reading::Reading;
-
-#[cfg(test)]
-mod tests;

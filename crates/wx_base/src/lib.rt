@@ -29,6 +29,3 @@ pub use sequence::{Copied, Sequence};
 pub use sink::{PutError, Sink};
 pub use sure_files::SureFiles;
 pub use sure_sink::SureSink;
-
-#[cfg(test)]
-mod tests;

@@ -38,24 +38,3 @@ impl fmt::Display for Excess {
 }
 
 impl Error for Excess {}
-
-#[cfg(test)]
-mod tests {
-    use super::*;
-    use std::test::Fail;
-
-    #[test]
-    fn an_excess_reads_as_its_step(rt: HostRuntime) -> Result<(), Fail> {
-        let cases = [
-            (NumOp::Plus, "1 + -2 does not fit in 128 bits"),
-            (NumOp::Minus, "1 - -2 does not fit in 128 bits"),
-            (NumOp::Times, "1 * -2 does not fit in 128 bits"),
-        ];
-        for (op, text) in cases {
-            let excess = Excess { op, x: 1, y: -2 };
-            let found = format!(in rt.alloc(); "{excess}")?;
-            assert_eq!(rt; found.as_str(), text);
-        }
-        Ok(())
-    }
-}

@@ -1,4 +1,4 @@
-use crate::FlatLists;
+use flat_lists::FlatLists;
 use std::alloc::Global;
 use std::test::Fail;
 use wx_base::NoMemory;
