@@ -1,4 +1,4 @@
-mod AddsLaws
+pub mod AddsLaws
 mod KeptLaws
 mod LevelLaws
 mod ShownLaws

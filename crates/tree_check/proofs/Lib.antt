@@ -1,1 +1,1 @@
-mod BoxesLaws
+pub mod BoxesLaws

@@ -3,7 +3,7 @@ ghost use Rattle.std.specs.Int.{w128};
 ghost use Rattle.mix_system.specs.declared.literal.Lit.{Lit as Literal};
 ghost use Rattle.mix_system.specs.Bounds.{IsIn};
 ghost use Rattle.proof_term.specs.Refutes.{low_half, high_half};
-ghost use Rattle.box_check.specs.Bounds.{HasSlot, Stands};
+ghost use Rattle.box_check.specs.Bounds.{HasSlot, Stands, Extends};
 ghost use Rattle.box_check.specs.declared.bounds.Bounds.{Bounds as Kept};
 ghost use Rattle.tree_check.specs.Boxes.{Stand, IsNext};
 
@@ -37,7 +37,7 @@ pub enum Refuted {
 impl OpenBoxes {
     /// One box alone, the one that is in force. It takes no memory.
     pub fn new(alloc: Global) -> OpenBoxes
-        ensures { (bounds : Kept) (box : List Literal) → Stands bounds box → Stand bounds result (box ∷ []) }
+        ensures { (base bounds : Kept) (box : List Literal) → Extends base bounds → Stands bounds box → Stand base bounds result (box ∷ []) }
     {
         OpenBoxes {
             halves: Vec::new(alloc),
@@ -48,8 +48,9 @@ impl OpenBoxes {
     pub fn split(&mut self, bounds: &mut Bounds, var: u32, at: i128) -> Result<(), NoMemory>
         requires fits { FitsSigned w128 (at +ℤ pos 1) }
         requires slot { HasSlot bounds.old (Term.Var var) }
-        ensures stand { OnOk result ((box : List Literal) (boxes : List (List Literal)) → Stand bounds.old self.old (box ∷ boxes)
-            → Stand bounds.new self.new ((low_half var at ∷ box) ∷ (high_half var at ∷ box) ∷ boxes)) }
+        ensures { OnOk result ((base : Kept) (box : List Literal) (boxes : List (List Literal)) →
+            Stand base bounds.old self.old (box ∷ boxes)
+            → Stand base bounds.new self.new ((low_half var at ∷ box) ∷ (high_half var at ∷ box) ∷ boxes)) }
     {
         let half = Half {
             mark: bounds.mark(),
@@ -61,9 +62,9 @@ impl OpenBoxes {
 
     /// Goes on from the box in force to the next that is left.
     pub fn next(&mut self, bounds: &mut Bounds) -> Result<Refuted, NoMemory>
-        requires stand { (boxes : List (List Literal)) × Stand bounds.old self.old boxes }
-        requires slots { All (λ half. HasSlot bounds.old half.high.term) self.old.halves.items }
-        ensures stand { IfOk result (λ left. (box : List Literal) (boxes : List (List Literal)) → Stand bounds.old self.old (box ∷ boxes) → IsNext left bounds.new self.new boxes) }
+        requires { (base : Kept) × (boxes : List (List Literal)) × Stand base bounds.old self.old boxes }
+        ensures { IfOk result (λ left. (base : Kept) (box : List Literal) (boxes : List (List Literal)) →
+            Stand base bounds.old self.old (box ∷ boxes) → IsNext left base bounds.new self.new boxes) }
     {
         let Some(half) = self.halves.pop() else {
             return Ok(Refuted::All);

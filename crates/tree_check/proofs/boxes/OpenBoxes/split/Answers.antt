@@ -8,8 +8,6 @@ returns c =
     let at_fits = c.ranges.at in
     let low = simp to_z-of_z at c.low_of.ensures in
     let high = simp to_z-of_z at c.high_of.ensures in
-    record {
-      stand = on_ok c.put.result (λ tightens box boxes stand.
-          stand_split_as c.args.bounds.now c.put.new.self c.args.self.now (record { halves = c.push.new.self }) c.low_of.result (low_half c.args.var c.args.at) (high_half c.args.var c.args.at)
-          (record { mark = c.mark.result; high = c.high_of.result }) box boxes c.in_ok-push.ensures.items c.mark.ensures tightens c.put.ensures.extends stand low high) c.put.ensures.both;
-    }
+    on_ok c.put.result (λ tightens.
+    stand_split_as c.args.bounds.now c.put.new.self c.args.self.now (record { halves = c.push.new.self }) (record { mark = c.mark.result; high = c.high_of.result }) c.in_ok-push.ensures.items c.low_of.result (low_half c.args.var c.args.at)
+    (high_half c.args.var c.args.at) c.mark.ensures c.requires.slot tightens c.put.ensures.extends low high) c.put.ensures.both
