@@ -35,15 +35,15 @@ pub all-true : (P : Lit → Type 0) (clauses : List (List Lit)) → Each (Some_o
 all-true P [] each = λ k d within. absurd (omega arith)
 all-true P (lits ∷ clauses) each = All-cons (Any P) lits clauses (Any-from_Some_of P lits each.0) (all-true P clauses each.1)
 
-Each-append : {X : Type 0} (P : X → Type 0) (xs ys : List X) → Each P xs → Each P ys → Each P (xs ++ ys)
+pub Each-append : {X : Type 0} (P : X → Type 0) (xs ys : List X) → Each P xs → Each P ys → Each P (xs ++ ys)
 Each-append P [] ys left right = right
 Each-append P (x ∷ xs) ys left right = (left.0, Each-append P xs ys left.1 right)
 
-Each-left : {X : Type 0} (P : X → Type 0) (xs ys : List X) → Each P (xs ++ ys) → Each P xs
+pub Each-left : {X : Type 0} (P : X → Type 0) (xs ys : List X) → Each P (xs ++ ys) → Each P xs
 Each-left P [] ys each = tt
 Each-left P (x ∷ xs) ys each = (each.0, Each-left P xs ys each.1)
 
-Each-right : {X : Type 0} (P : X → Type 0) (xs ys : List X) → Each P (xs ++ ys) → Each P ys
+pub Each-right : {X : Type 0} (P : X → Type 0) (xs ys : List X) → Each P (xs ++ ys) → Each P ys
 Each-right P [] ys each = each
 Each-right P (x ∷ xs) ys each = Each-right P xs ys each.1
 

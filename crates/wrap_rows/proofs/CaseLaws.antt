@@ -39,3 +39,10 @@ Any-from_Some_of P (x ∷ xs) some =
       | inl here ↦ (0, x, omega arith, refl, here)
       | inr later ↦ let w = Any-from_Some_of P xs later in (suc w.0, w.1, omega (arith, w.2), w.3, w.4)
     ]
+
+-- a choice whose first claim doesn't hold, and one that has no other
+pub without_first : {A B : Type 0} → A ⊎ B → (A → ⊥) → B
+without_first either barred = elim either [ inl a ↦ absurd (barred a) | inr b ↦ b ]
+
+pub only : {A : Type 0} → A ⊎ ⊥ → A
+only either = elim either [ inl a ↦ a | inr none ↦ elim none [ ] ]

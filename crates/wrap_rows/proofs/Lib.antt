@@ -2,5 +2,13 @@ pub mod BlockLaws
 pub mod CaseLaws
 pub mod ClauseLaws
 pub mod LayoutLaws
+pub mod LinearLaws
+pub mod MarkLaws
+pub mod MarkedLaws
+pub mod PutLaws
+pub mod ReadLaws
+pub mod SextLaws
 pub mod SignLaws
 pub mod SumLaws
+pub mod WrapLaws
+pub mod ZextLaws

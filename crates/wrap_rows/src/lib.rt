@@ -3,11 +3,23 @@
 //! The definitions stand in `specs/`; the laws are contracts of functions that do nothing.
 #![tactic(auto)]
 
+mod blocks;
 mod laws;
+mod marks;
 mod normal;
+mod piece;
+mod sext;
+mod vars;
+mod zext;
 
+pub use blocks::{add_equation, add_sign, gap, greatest, is_marked, mark_of, power, sign_of};
 pub use laws::{
     what_a_comparison_says, what_a_sign_says, what_an_equation_says,
     what_is_laid_says_what_the_layout_says, what_marks_say,
 };
+pub use marks::{add_marks, at_least, at_most, times};
 pub use normal::{add_lits, add_sum};
+pub use piece::Piece;
+pub use sext::Sext;
+pub use vars::{ValueVars, value_at};
+pub use zext::Zext;
