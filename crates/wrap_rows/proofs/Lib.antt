@@ -6,7 +6,9 @@ pub mod LinearLaws
 pub mod MarkLaws
 pub mod MarkedLaws
 pub mod PutLaws
+pub mod RangedLaws
 pub mod ReadLaws
+pub mod SelectLaws
 pub mod SextLaws
 pub mod SignLaws
 pub mod SumLaws

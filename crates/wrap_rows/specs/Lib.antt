@@ -2,6 +2,8 @@ pub mod Blocks
 pub mod Layout
 pub mod Normal
 pub mod Piece
+pub mod Ranged
+pub mod Select
 pub mod Sext
 pub mod Vars
 pub mod Zext

@@ -8,6 +8,8 @@ mod laws;
 mod marks;
 mod normal;
 mod piece;
+mod ranged;
+mod select;
 mod sext;
 mod vars;
 mod zext;
@@ -20,6 +22,8 @@ pub use laws::{
 pub use marks::{add_marks, at_least, at_most, times};
 pub use normal::{add_lits, add_sum};
 pub use piece::Piece;
+pub use ranged::Ranged;
+pub use select::Select;
 pub use sext::Sext;
 pub use vars::{ValueVars, value_at};
 pub use zext::Zext;
