@@ -20,6 +20,3 @@ mod words;
 pub use cursor::Cursor;
 pub use function::read_function;
 pub use stop::{Place, Refusal, Stop};
-
-#[cfg(test)]
-mod tests;

@@ -13,6 +13,3 @@ mod reader;
 
 pub use fault::ReadFault;
 pub use reader::{one_answer, read};
-
-#[cfg(test)]
-mod tests;
