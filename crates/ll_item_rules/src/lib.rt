@@ -15,6 +15,3 @@ pub use lacking::{Lacking, lacking_name};
 pub use value_table::ValueTable;
 pub use walk::{SiteTest, first_site};
 pub use widths::TypeDiffers;
-
-#[cfg(test)]
-mod tests;

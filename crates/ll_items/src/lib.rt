@@ -10,6 +10,3 @@ pub use names::{NameList, list_labels, list_names};
 pub use parts::{PartRef, Parts, push_parts};
 pub use sites::{ItemRef, SiteRef, Sites, list_sites};
 pub use values::{ValueRef, Values, list_values};
-
-#[cfg(test)]
-mod tests;

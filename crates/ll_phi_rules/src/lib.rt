@@ -4,6 +4,3 @@
 mod phis;
 
 pub use phis::PhiEntriesDiffer;
-
-#[cfg(test)]
-mod tests;
