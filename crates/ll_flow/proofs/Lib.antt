@@ -1,0 +1,7 @@
+mod FindLaws
+mod HomeLaws
+mod NamedLaws
+mod PathLaws
+pub mod PlaceLaws
+pub mod SiteLaws
+mod UseLaws

@@ -1,0 +1,4 @@
+pub mod Found
+pub mod Homes
+pub mod Paths
+pub mod Uses
