@@ -1,4 +1,11 @@
+pub mod AimLaws
+pub mod AnalysisLaws
+pub mod KeptLaws
+pub mod LearntLaws
 pub mod LookLaws
+pub mod MarkLaws
 pub mod PropagationLaws
+pub mod QuietLaws
 pub mod ReasonLaws
+pub mod RunLaws
 pub mod SpanLaws

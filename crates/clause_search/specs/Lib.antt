@@ -1,7 +1,10 @@
 pub mod Answers
 pub mod Decided
 pub mod Flat
+pub mod Learnt
 pub mod Looks
+pub mod Marks
+pub mod Runs
 pub mod Stored
 pub mod Passed
 pub mod Search

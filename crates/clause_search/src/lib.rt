@@ -1,13 +1,20 @@
-//! The search over clauses: a store of clauses and a trail, propagation, decisions and going back.
+//! The search over clauses: a store of clauses and a trail, propagation, decisions, going back, and what conflicts teach.
 //!
 //! Literals are bounds on terms, so a literal may be true or false by another one's bound.
 #![tactic(auto)]
 
+mod analyse;
+mod kept;
+mod laws;
+mod learnt;
 mod look;
+mod marks;
 mod propagate;
 mod search;
 mod spread;
 mod store;
 
+pub use laws::lower_levels_stay_quiet;
+pub use learnt::Learnt;
 pub use search::Search;
 pub use spread::Spread;

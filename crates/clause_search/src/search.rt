@@ -86,6 +86,8 @@ impl Search {
         requires { at < length self.now.store }
         ensures lits { slice_get self.now.store at ≡ Some result.now }
         ensures clause { IsClause (length self.now.trail.ranges) self.now.trail.rows result.now }
+        ensures clauses { AreClauses self.now }
+        ensures trail { IsTrail self.now.trail }
     {
         self.clauses.get(at)
     }
