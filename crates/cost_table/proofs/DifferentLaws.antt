@@ -1,5 +1,5 @@
 -- Three different labels, as the tests have them.
-use Rattle.std.proofs.Common.{◌≡◌, ◌≢◌, ◌<◌, ℕ, zero, suc, List, [], ◌∷◌, get_or, sym, ◌∙◌, ap, arith}
+use Rattle.std.proofs.Common.{◌≡◌, ◌≢◌, ℕ, zero, suc, List, [], ◌∷◌, get_or, sym, ◌∙◌, ap, arith}
 use Rattle.std.specs.List.{AllPairs}
 
 pub three_differ : (first second third : List ℕ) → first ≢ second → first ≢ third → second ≢ third → AllPairs (λ label other. label ≢ other) (first ∷ second ∷ third ∷ [])

@@ -1,11 +1,11 @@
 -- Costs that are kept for entries.
-use Rattle.std.proofs.Common.{◌≡◌, ◌<◌, ◌⊎◌, ⊎_elim, ℕ, List, [], ◌∷◌, ◌++◌, length, get_or, set, Option, Some, None, refl, sym, ◌∙◌, ap, arith, subst, get_or-set_same, get_or-set_other, length-set, append_assoc, Bool, true, false, MatchBool, ◌+◌}
+use Rattle.std.proofs.Common.{◌≡◌, ◌<◌, ⊎_elim, ℕ, List, [], ◌∷◌, ◌++◌, length, get_or, set, Option, Some, None, refl, sym, ◌∙◌, ap, arith, subst, get_or-set_same, get_or-set_other, length-set, append_assoc, Bool, true, false, MatchBool}
 use Rattle.std.specs.List.{Contains}
 use Rattle.std.proofs.lemmas.Bool.{cases_eq}
 use Rattle.std.proofs.lemmas.List.{append-nil}
 use Rattle.std.proofs.lemmas.List.Elements.{Contains-append_left, Contains-push, Contains-push_cases}
 use Rattle.flow_graph.specs.declared.edge.Edge.{Edge}
-use Rattle.cost_table.specs.Lines.{Says, SaysAlone}
+use Rattle.cost_table.specs.Lines.{SaysAlone}
 use Rattle.cost_table.specs.declared.line.Said.{Said}
 use Rattle.cost_table.specs.declared.line.Said.TheVariants as words
 use Rattle.cost_table.specs.declared.entry.Entry.{Entry}

@@ -3,4 +3,7 @@ pub mod DigitLaws
 pub mod KeptLaws
 pub mod LineLaws
 pub mod NameLaws
+pub mod OneEntryLaws
+pub mod OneLineLaws
+pub mod OneTableLaws
 pub mod TableLaws

@@ -1,5 +1,5 @@
 -- Where a local name at the front of a line ends.
-use Rattle.std.proofs.Common.{◌≡◌, ◌<◌, ◌+◌, ◌⊎◌, inl, inr, ⊎_elim, ℕ, suc, Bool, true, false, not, List, [], ◌∷◌, ◌++◌, length, take, drop, get_or, refl, sym, ◌∙◌, ap, arith, subst, append_assoc, drop-cons, length-append}
+use Rattle.std.proofs.Common.{◌≡◌, ◌<◌, ⊎_elim, ℕ, suc, Bool, true, false, not, List, [], ◌∷◌, ◌++◌, length, take, drop, get_or, refl, sym, ◌∙◌, ap, arith, append_assoc, drop-cons, length-append}
 use Rattle.std.specs.Prelude.{◌==◌}
 use Rattle.std.specs.List.{AllPass, prefix_len, list_all}
 use Rattle.std.proofs.lemmas.Bool.{cases_eq, true≢false}
@@ -9,9 +9,9 @@ use Rattle.std.proofs.Math.Seq.{get_or-append_seam}
 use Rattle.std.proofs.lemmas.List.Sums.{AllPass-from_list_all}
 use Rattle.std.proofs.lemmas.List.Elements.{All-cons, All-tail}
 use Rattle.ll_token.specs.Bytes.{is_run_byte, is_inner}
-use Rattle.ll_token.specs.Names.{IsRun, IsQuoted, Writes}
+use Rattle.ll_token.specs.Names.{IsRun}
 use Rattle.ll_token.specs.Scan.{IsLocalName}
-use Rattle.cost_table.specs.Names.{begins_quoted, no_quote, no_space, name_len}
+use Rattle.cost_table.specs.Names.{no_quote, no_space, name_len}
 
 -- a byte that passes a test isn't one that fails it
 apart : (test : ℕ → Bool) (byte other : ℕ) → test byte ≡ true → test other ≡ false → (byte == other) ≡ false

@@ -1,5 +1,5 @@
 -- Lines that were taken, and the table at their end.
-use Rattle.std.proofs.Common.{◌≡◌, ◌<◌, ◌+◌, ◌⊎◌, inl, inr, ℕ, List, [], ◌∷◌, ◌++◌, length, get_or, map, Option, Some, None, refl, sym, ◌∙◌, ap, arith, subst, append_assoc, length-append}
+use Rattle.std.proofs.Common.{◌≡◌, ◌<◌, ◌+◌, inl, inr, ℕ, List, [], ◌∷◌, ◌++◌, length, get_or, map, Option, Some, None, refl, sym, ◌∙◌, ap, arith, subst, append_assoc, length-append}
 use Rattle.std.specs.List.{Contains}
 use Rattle.std.proofs.lemmas.List.{append-nil, length_push, length-map, get_or-map}
 use Rattle.flow_graph.specs.declared.edge.Edge.{Edge}
@@ -10,7 +10,7 @@ use Rattle.cost_table.specs.declared.entry.Flaw.TheVariants as flaw
 use Rattle.cost_table.specs.declared.costs.CostFault.{CostFault}
 use Rattle.cost_table.specs.declared.costs.CostFault.TheVariants as fault
 use Rattle.cost_table.specs.Entries.{label_at, Gives, IsFlaw, Goes, FlawAt, IsKept, AreKept, Keeps, Adds, cost_or_zero}
-use Rattle.cost_table.specs.Table.{CostLists, IsHeading, IsEdgeCost, AreEntries, Table, HasNoHeading, StopsAt, Lacks, IsCause, IsLineFault, fault_at, lines_in}
+use Rattle.cost_table.specs.Table.{CostLists, IsHeading, IsEdgeCost, AreEntries, Table, HasNoHeading, Lacks, IsCause, IsLineFault, fault_at, lines_in}
 use Rattle.cost_table.proofs.KeptLaws.{goes_on}
 
 -- the lines before those that are left gave entries, which are kept

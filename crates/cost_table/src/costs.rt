@@ -1,8 +1,10 @@
-ghost use Rattle.std.specs.Prelude.{◌≡◌, ◌≢◌, ◌<◌, ◌+◌, ◌^◌, ◌≤◌, [], ℕ, List, length, map, slice_index, codes, All, AllPairs, IfOk, IfErr, MatchOption, MatchResult};
+ghost use Rattle.std.specs.Prelude.{◌≡◌, ◌≢◌, ◌⊎◌, ◌<◌, ◌^◌, ◌≤◌, [], ℕ, List, length, slice_index, All, AllPairs, IfOk, IfErr, MatchOption, MatchResult};
 ghost use Rattle.flow_graph.specs.Sorted.{AreSorted};
 ghost use Rattle.cost_table.specs.declared.entry.Entry.{Entry as Given};
 ghost use Rattle.cost_table.specs.Entries.{Goes, Keeps};
-ghost use Rattle.cost_table.specs.Table.{Table, IsHeading, IsCause, IsLineFault, fault_at};
+ghost use Rattle.cost_table.specs.Table.{CostLists, Table, IsHeading, IsCause, IsLineFault, fault_at};
+ghost use Rattle.cost_table.specs.declared.costs.CostFault.{CostFault as Fault};
+ghost use Rattle.cost_table.specs.declared.costs.CostFault.TheVariants as faults;
 
 use crate::entry::Flaw;
 use crate::ledger::{Ledger, costs_in, first_missing};
@@ -36,9 +38,7 @@ pub enum CostFault {
 }
 
 impl From<NoMemory> for CostFault {
-    ghost use Rattle.cost_table.specs.declared.costs.CostFault.TheVariants as fault;
-
-    ghost from_gives = { λ _ e. e ≡ fault.NoMemory };
+    ghost from_gives = { λ _ e. e ≡ faults.NoMemory };
 
     fn from(_: NoMemory) -> Self {
         CostFault::NoMemory
@@ -150,6 +150,8 @@ fn take_lines(
 /// Reads a table of costs of version 1 or 2, over the labels of a function's blocks by their places, and its
 /// edges by places, sorted and each once. An edge without a line costs 0.
 ///
+/// A text is a table of one list of costs at most, and none where it has a fault, of which it has one.
+///
 /// # Errors
 /// One variant for each cause, in the order of [`CostFault`]; `NoMemory` where there is no memory.
 pub fn read_costs(
@@ -162,6 +164,37 @@ pub fn read_costs(
     requires different { AllPairs (λ label other. label ≢ other) labels.now }
     requires within { All (λ edge. (edge.from < length labels.now) × (edge.to < length labels.now)) edges.now }
     requires sorted { AreSorted edges.now }
+
+    // What is answered is so.
+    ensures table { IfOk result (Table text.now labels.now edges.now) }
+    ensures fault { IfErr result (IsCause text.now labels.now edges.now) }
+
+    // What is so is answered.
+    ensures only { (costs : CostLists) → Table text.now labels.now edges.now costs
+        → MatchResult result (λ read. read ≡ costs) (λ found. found ≡ faults.NoMemory) }
+    ensures only_fault { (cause : Fault) → cause ≢ faults.NoMemory → IsCause text.now labels.now edges.now cause
+        → MatchResult result (λ read. ⊥) (λ found. (found ≡ cause) ⊎ (found ≡ faults.NoMemory)) }
+
+    // There is one answer at most.
+    ensures one { (costs others : CostLists) → Table text.now labels.now edges.now costs
+        → Table text.now labels.now edges.now others → costs ≡ others }
+    ensures one_fault { (cause other : Fault) → cause ≢ faults.NoMemory → other ≢ faults.NoMemory
+        → IsCause text.now labels.now edges.now cause → IsCause text.now labels.now edges.now other → cause ≡ other }
+    ensures not_both { (costs : CostLists) (cause : Fault) → Table text.now labels.now edges.now costs
+        → IsCause text.now labels.now edges.now cause → cause ≡ faults.NoMemory }
+{
+    read_table(alloc, text, labels, edges)
+}
+
+fn read_table(
+    alloc: Global,
+    text: &[u8],
+    labels: &[Name],
+    edges: &[Edge],
+) -> Result<Costs, CostFault>
+    requires few { length text.now < 2 ^ 31 }
+    requires different { AllPairs (λ label other. label ≢ other) labels.now }
+    requires within { All (λ edge. (edge.from < length labels.now) × (edge.to < length labels.now)) edges.now }
     ensures table { IfOk result (Table text.now labels.now edges.now) }
     ensures fault { IfErr result (IsCause text.now labels.now edges.now) }
 {

@@ -1,4 +1,4 @@
-use Rattle.std.proofs.Common.{◌≡◌, sym, ◌∙◌}
+use Rattle.std.proofs.Common.{sym, ◌∙◌}
 use Rattle.cost_table.proofs.LineLaws.{block_alone}
 use Rattle.cost_table.proofs.line.read_line.Goals as goal
 

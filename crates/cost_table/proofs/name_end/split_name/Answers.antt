@@ -1,5 +1,5 @@
-use Rattle.std.proofs.Common.{◌≡◌, sym, ◌∙◌, arith}
-use Rattle.cost_table.proofs.NameLaws.{split_parts, split_more, split_front, split_back}
+use Rattle.std.proofs.Common.{◌∙◌, arith}
+use Rattle.cost_table.proofs.NameLaws.{split_more, split_front, split_back}
 use Rattle.cost_table.proofs.name_end.split_name.Goals as goal
 use Rattle.cost_table.proofs.name_end.split_name.Goals.{then-end-line-via-then-end-line, then-end-line-via-else-end-line+then-line-end-ne32}
 
