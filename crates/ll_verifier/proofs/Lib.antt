@@ -1,3 +1,4 @@
 mod CountLaws
 mod NameLaws
+mod RuleLaws
 mod SiteLaws

@@ -1,5 +1,5 @@
 -- The rules for the items of a function, in order, and what breaks them.
-use Rattle.std.specs.Prelude.{◌≡◌, ℕ, List, [], Bool, Option, Some, is_some, slice_index_or}
+use Rattle.std.specs.Prelude.{◌≡◌, ◌⊎◌, ℕ, List, [], Bool, Option, Some, is_some, slice_index_or}
 use Rattle.ll_tree.specs.declared.func.Func.{Func}
 use Rattle.ll_rules.specs.Items.{labels_of, names_of, values_of, parts_of}
 use Rattle.ll_rules.specs.Limits.{KeepsLimits, IsFirstExcess}
@@ -11,11 +11,12 @@ use Rattle.ll_item_rules.specs.Widths.{type_differs}
 use Rattle.ll_item_rules.specs.Cases.{repeated_case}
 use Rattle.ll_item_rules.specs.Constants.{is_not_linear, has_bad_divisor}
 use Rattle.ll_phi_rules.specs.Phis.{differ_at}
-use Rattle.ll_links.specs.declared.link.Link.{Link}
-use Rattle.ll_links.specs.Links.{AreWhole}
+use Rattle.ll_tree.specs.Formed.{IsFormed}
+use Rattle.ll_flow.specs.Paths.{HasNoLoop, IsCycle, AllReached, IsFirstUnreached}
+use Rattle.ll_flow.specs.Uses.{ValueUse, uses_of, AllDefined, IsFirstUndefined, LeavesOut}
 use Rattle.ll_verifier.specs.declared.fault.Spot.{Spot}
-use Rattle.ll_verifier.specs.declared.fault.RuleFault.{RuleFault}
-use Rattle.ll_verifier.specs.declared.fault.RuleFault.TheVariants as fault
+use Rattle.ll_verifier.specs.declared.fault.VerifyFault.{VerifyFault}
+use Rattle.ll_verifier.specs.declared.fault.VerifyFault.TheVariants as fault
 
 -- an item's place, by the label of its block
 abbrev pub spot_of : Func → Site → Spot
@@ -64,12 +65,37 @@ Divides func = IsLinear func × NoneFails (λ site. has_bad_divisor site.what) (
 abbrev pub HasEntries : Func → Type 0
 HasEntries func = Divides func × NoneFails (differ_at func.blocks) (sites_of func)
 
+abbrev pub IsAcyclic : Func → Type 0
+IsAcyclic func = HasEntries func × HasNoLoop func
+
+abbrev pub IsConnected : Func → Type 0
+IsConnected func = IsAcyclic func × AllReached func
+
+-- All rules are kept.
+abbrev pub KeepsAll : Func → Type 0
+KeepsAll func = IsConnected func × AllDefined func
+
+-- What the language asks of a function: it is formed, and none of the conditions of a fault holds.
+pub record Rules (func : Func) : Type 0 where
+  pub formed : IsFormed func
+  pub limits : KeepsLimits func
+  pub names : HasDifferentNames func
+  pub named : NoneFails (lacks_name func) (sites_of func)
+  pub typed : NoneFails (differs func) (sites_of func)
+  pub cases : NoneFails repeats_case (sites_of func)
+  pub linear : NoneFails (λ site. is_not_linear site.what) (sites_of func)
+  pub divisors : NoneFails (λ site. has_bad_divisor site.what) (sites_of func)
+  pub entries : NoneFails (differ_at func.blocks) (sites_of func)
+  pub acyclic : HasNoLoop func
+  pub reached : AllReached func
+  pub defined : AllDefined func
+
 -- the first item that breaks a rule stands there
 abbrev pub StandsFirst : Func → (Site → Bool) → Spot → Type 0
 StandsFirst func breaks at = (site : Site) × IsFirst breaks (sites_of func) site × (at ≡ spot_of func site)
 
 -- the fault is the first
-abbrev pub Breaks : Func → RuleFault → Type 0
+abbrev pub Breaks : Func → VerifyFault → Type 0
 Breaks func (fault.TooMany excess) = IsFirstExcess func excess
 Breaks func (fault.NameTwice name) = KeepsLimits func × IsGivenTwice func name
 Breaks func (fault.NoSuchName name at) = HasNames func × ((site : Site) × IsFirst (lacks_name func) (sites_of func) site × (at ≡ spot_of func site) × (missing_name func site ≡ Some name))
@@ -78,7 +104,11 @@ Breaks func (fault.DuplicateCase at value) = IsTyped func × ((site : Site) × I
 Breaks func (fault.NotLinear at) = HasCases func × StandsFirst func (λ site. is_not_linear site.what) at
 Breaks func (fault.BadDivisor at) = IsLinear func × StandsFirst func (λ site. has_bad_divisor site.what) at
 Breaks func (fault.PhiEntries at) = Divides func × StandsFirst func (differ_at func.blocks) at
+Breaks func (fault.Loop cycle) = HasEntries func × IsCycle func cycle
+Breaks func (fault.Unreached block) = IsAcyclic func × IsFirstUnreached func block
+Breaks func (fault.NotDefined at name path) = IsConnected func × ((it : ValueUse) × IsFirstUndefined func (uses_of func) it × (at ≡ spot_of func it.site) × (name ≡ it.name) × LeavesOut func it path)
+Breaks func fault.NoMemory = ⊥
 
--- all are kept, and these are the numbers of what each item names
-abbrev pub IsNumbered : Func → List (List Link) × List Link → Type 0
-IsNumbered func links = HasEntries func × AreWhole (values_of func) (labels_of func) (sites_of func) links.0
+-- why a function is refused: it breaks a rule, unless memory was wanting
+abbrev pub IsRefusal : Func → VerifyFault → Type 0
+IsRefusal func refusal = (refusal ≡ fault.NoMemory) ⊎ Breaks func refusal

@@ -1,4 +1,6 @@
+use ll_flow::Labels;
 use ll_rules::TooMany;
+use ll_tree::Func;
 use wx_base::Name;
 
 /// Where an item stands: the label of its block, and how many phis and instructions of the block stand
@@ -11,7 +13,7 @@ pub struct Spot {
 
 /// The first rule that a function breaks, in the order of these variants, and the first place in the file.
 #[derive(Debug, Drop)]
-pub enum RuleFault {
+pub enum VerifyFault {
     /// A limit is exceeded.
     TooMany(TooMany),
     /// Two of the parameters, labels and results have this name. Of several such names it is the one whose
@@ -31,4 +33,22 @@ pub enum RuleFault {
     /// A phi has another count of entries for a block than the block has targets that are the phi's block,
     /// or two entries for it hold different operands.
     PhiEntries { at: Spot },
+    /// Each of these blocks has an edge to the next and the last to the first, which has the least place. Which
+    /// cycle is given is free.
+    Loop { cycle: Labels },
+    /// No path from the entry reaches the block.
+    Unreached { block: Name },
+    /// The path goes from the entry to the block of the use, for a phi to the block that its entry names, and
+    /// no definition of the name stands on it before the use. Of several names in one item it is the first
+    /// in written order. Which path is given is free.
+    NotDefined { at: Spot, name: Name, path: Labels },
+    /// Memory was wanting. No rule is broken by it.
+    NoMemory,
+}
+
+/// A function that was refused, as it came, and why.
+#[derive(Debug, Drop)]
+pub struct Rejected {
+    pub func: Func,
+    pub fault: VerifyFault,
 }

@@ -1,21 +1,22 @@
-ghost use Rattle.std.specs.Prelude.{◌≡◌, IfOk, MatchOption, MatchResult, map, is_some};
+ghost use Rattle.std.specs.Prelude.{◌≡◌, ◌≤◌, length, IfOk, MatchOption, MatchResult, map, is_some};
 ghost use Rattle.ll_rules.specs.Limits.{KeepsLimits};
 ghost use Rattle.ll_items.specs.Sites.{sites_of};
 ghost use Rattle.ll_item_rules.specs.First.{NoneFails};
 ghost use Rattle.ll_item_rules.specs.Constants.{is_not_linear, has_bad_divisor};
 ghost use Rattle.ll_verifier.specs.Rules as rules;
+ghost use Rattle.ll_verifier.specs.Sound.{IsChecked};
 ghost use Rattle.ll_verifier.specs.Tables.{AreTables};
 
-use crate::RuleFault;
+use crate::VerifyFault;
+use crate::paths::{Checked, check_paths};
 use crate::spot::{first_spot, spot};
 use crate::tables::{Tables, tables_of};
-use flat_lists::FlatLists;
 use ll_item_rules::{
     BadDivisor, Lacking, NotLinear, RepeatedCase, TypeDiffers, first_site, lacking_name,
     repeated_case,
 };
 use ll_items::{Parts, list_names, push_parts};
-use ll_links::{Link, resolve};
+use ll_links::resolve;
 use ll_phi_rules::PhiEntriesDiffer;
 use ll_rules::first_excess;
 use ll_tree::Func;
@@ -23,26 +24,25 @@ use name_table::first_repeat;
 use std::alloc::Global;
 use wx_base::{Name, NoMemory};
 
-/// The numbers of what each item names, where a function keeps the limits and the rules for names, widths,
-/// cases, constants and phis; else the first of these rules that it breaks.
-pub fn check_items(
-    alloc: Global,
-    func: &Func,
-) -> Result<Result<FlatLists<Link>, RuleFault>, NoMemory>
-    ensures { IfOk result (λ answer. MatchResult answer (rules.IsNumbered func.now) (rules.Breaks func.now)) }
+// The flow of a function and the numbers of what each item names, where it keeps all rules; else the first
+// rule that it breaks.
+pub fn check(alloc: Global, func: &Func) -> Result<Result<Checked, VerifyFault>, NoMemory>
+    requires some_block { 1 ≤ length func.now.blocks }
+    ensures { IfOk result (λ answer. MatchResult answer (IsChecked func.now) (rules.Breaks func.now)) }
 {
     match first_excess(func) {
-        Some(excess) => Ok(Err(RuleFault::TooMany(excess))),
+        Some(excess) => Ok(Err(VerifyFault::TooMany(excess))),
         None => check_names(alloc, func),
     }
 }
 
-fn check_names(alloc: Global, func: &Func) -> Result<Result<FlatLists<Link>, RuleFault>, NoMemory>
-    requires { KeepsLimits func.now }
-    ensures { IfOk result (λ answer. MatchResult answer (rules.IsNumbered func.now) (rules.Breaks func.now)) }
+fn check_names(alloc: Global, func: &Func) -> Result<Result<Checked, VerifyFault>, NoMemory>
+    requires some_block { 1 ≤ length func.now.blocks }
+    requires limits { KeepsLimits func.now }
+    ensures { IfOk result (λ answer. MatchResult answer (IsChecked func.now) (rules.Breaks func.now)) }
 {
     match repeated_name(alloc, func)? {
-        Some(name) => Ok(Err(RuleFault::NameTwice { name })),
+        Some(name) => Ok(Err(VerifyFault::NameTwice { name })),
         None => {
             let tables = tables_of(alloc, func)?;
             check_sites(alloc, func, &tables)
@@ -66,10 +66,11 @@ fn check_sites(
     alloc: Global,
     func: &Func,
     tables: &Tables,
-) -> Result<Result<FlatLists<Link>, RuleFault>, NoMemory>
+) -> Result<Result<Checked, VerifyFault>, NoMemory>
+    requires some_block { 1 ≤ length func.now.blocks }
     requires names { rules.HasNames func.now }
     requires tables { AreTables func.now tables.now }
-    ensures { IfOk result (λ answer. MatchResult answer (rules.IsNumbered func.now) (rules.Breaks func.now)) }
+    ensures { IfOk result (λ answer. MatchResult answer (IsChecked func.now) (rules.Breaks func.now)) }
 {
     if let Some(fault) = missing_name(alloc, func, tables)? {
         return Ok(Err(fault));
@@ -81,22 +82,26 @@ fn check_sites(
         return Ok(Err(fault));
     }
     if let Some(at) = first_spot(alloc, func, &tables.sites, &NotLinear)? {
-        return Ok(Err(RuleFault::NotLinear { at }));
+        return Ok(Err(VerifyFault::NotLinear { at }));
     }
     if let Some(at) = first_spot(alloc, func, &tables.sites, &BadDivisor)? {
-        return Ok(Err(RuleFault::BadDivisor { at }));
+        return Ok(Err(VerifyFault::BadDivisor { at }));
     }
     let phis = PhiEntriesDiffer {
         blocks: func.blocks.items(),
     };
     if let Some(at) = first_spot(alloc, func, &tables.sites, &phis)? {
-        return Ok(Err(RuleFault::PhiEntries { at }));
+        return Ok(Err(VerifyFault::PhiEntries { at }));
     }
     let links = resolve(alloc, &tables.sites, &tables.values, &tables.labels)?;
-    Ok(Ok(links))
+    check_paths(alloc, func, tables, links)
 }
 
-fn missing_name(alloc: Global, func: &Func, tables: &Tables) -> Result<Option<RuleFault>, NoMemory>
+fn missing_name(
+    alloc: Global,
+    func: &Func,
+    tables: &Tables,
+) -> Result<Option<VerifyFault>, NoMemory>
     requires names { rules.HasNames func.now }
     requires tables { AreTables func.now tables.now }
     ensures { IfOk result (λ found. MatchOption found (NoneFails (rules.lacks_name func.now) (sites_of func.now)) (rules.Breaks func.now)) }
@@ -115,10 +120,10 @@ fn missing_name(alloc: Global, func: &Func, tables: &Tables) -> Result<Option<Ru
     };
     let name = Name::new(alloc, name.bytes())?;
     let at = spot(alloc, func, site)?;
-    Ok(Some(RuleFault::NoSuchName { name, at }))
+    Ok(Some(VerifyFault::NoSuchName { name, at }))
 }
 
-fn other_type(alloc: Global, func: &Func, tables: &Tables) -> Result<Option<RuleFault>, NoMemory>
+fn other_type(alloc: Global, func: &Func, tables: &Tables) -> Result<Option<VerifyFault>, NoMemory>
     requires named { rules.IsNamed func.now }
     requires tables { AreTables func.now tables.now }
     ensures { IfOk result (λ found. MatchOption found (NoneFails (rules.differs func.now) (sites_of func.now)) (rules.Breaks func.now)) }
@@ -128,7 +133,7 @@ fn other_type(alloc: Global, func: &Func, tables: &Tables) -> Result<Option<Rule
         ret: func.ret,
     };
     match first_spot(alloc, func, &tables.sites, &test)? {
-        Some(at) => Ok(Some(RuleFault::TypeDiffers { at })),
+        Some(at) => Ok(Some(VerifyFault::TypeDiffers { at })),
         None => Ok(None),
     }
 }
@@ -137,7 +142,7 @@ fn repeated_number(
     alloc: Global,
     func: &Func,
     tables: &Tables,
-) -> Result<Option<RuleFault>, NoMemory>
+) -> Result<Option<VerifyFault>, NoMemory>
     requires typed { rules.IsTyped func.now }
     requires tables { AreTables func.now tables.now }
     ensures { IfOk result (λ found. MatchOption found (NoneFails rules.repeats_case (sites_of func.now)) (rules.Breaks func.now)) }
@@ -149,5 +154,5 @@ fn repeated_number(
         return Ok(None);
     };
     let at = spot(alloc, func, site)?;
-    Ok(Some(RuleFault::DuplicateCase { at, value }))
+    Ok(Some(VerifyFault::DuplicateCase { at, value }))
 }

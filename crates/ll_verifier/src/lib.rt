@@ -1,13 +1,16 @@
-//! Whether a function keeps the rules of its language, and numbers in place of its names.
+//! Whether a function keeps the rules of its language, and what stands above needs of one that does: its order,
+//! its edges, and numbers in place of its names.
 #![tactic(auto)]
 
 mod fault;
 mod items;
+mod paths;
+mod sound;
 mod spot;
 mod tables;
 
-pub use fault::{RuleFault, Spot};
-pub use items::check_items;
+pub use fault::{Rejected, Spot, VerifyFault};
+pub use sound::{Sound, verify};
 
 #[cfg(test)]
 mod tests;

@@ -1,4 +1,5 @@
-use crate::{RuleFault, check_items};
+use crate::VerifyFault;
+use crate::items::check;
 use ll_tree::{BinKind, Block, End, Flags, Func, Instr, Op, Operand, Param, Ret};
 use std::alloc::Global;
 use std::test::Fail;
@@ -64,22 +65,29 @@ fn func_of(
 
 // The number of the rule that is broken, in the order of the rules from 1, and its item; 0 where none is.
 fn broken(alloc: Global, func: &Func) -> Result<(u32, u32), NoMemory> {
-    match check_items(alloc, func)? {
+    if func.blocks.len() < 1 {
+        return Ok((99, 0));
+    }
+    match check(alloc, func)? {
         Ok(_) => Ok((0, 0)),
         Err(fault) => Ok(rule(fault)),
     }
 }
 
-fn rule(fault: RuleFault) -> (u32, u32) {
+fn rule(fault: VerifyFault) -> (u32, u32) {
     match fault {
-        RuleFault::TooMany(_) => (1, 0),
-        RuleFault::NameTwice { .. } => (2, 0),
-        RuleFault::NoSuchName { at, .. } => (3, at.item),
-        RuleFault::TypeDiffers { at } => (4, at.item),
-        RuleFault::DuplicateCase { at, .. } => (5, at.item),
-        RuleFault::NotLinear { at } => (6, at.item),
-        RuleFault::BadDivisor { at } => (7, at.item),
-        RuleFault::PhiEntries { at } => (8, at.item),
+        VerifyFault::TooMany(_) => (1, 0),
+        VerifyFault::NameTwice { .. } => (2, 0),
+        VerifyFault::NoSuchName { at, .. } => (3, at.item),
+        VerifyFault::TypeDiffers { at } => (4, at.item),
+        VerifyFault::DuplicateCase { at, .. } => (5, at.item),
+        VerifyFault::NotLinear { at } => (6, at.item),
+        VerifyFault::BadDivisor { at } => (7, at.item),
+        VerifyFault::PhiEntries { at } => (8, at.item),
+        VerifyFault::Loop { .. } => (9, 0),
+        VerifyFault::Unreached { .. } => (10, 0),
+        VerifyFault::NotDefined { at, .. } => (11, at.item),
+        VerifyFault::NoMemory => (12, 0),
     }
 }
 
