@@ -1,0 +1,4 @@
+pub mod Parts
+pub mod Refusals
+pub mod Report
+pub mod Status
