@@ -24,8 +24,8 @@ use name_table::first_repeat;
 use std::alloc::Global;
 use wx_base::{Name, NoMemory};
 
-// The flow of a function and the numbers of what each item names, where it keeps all rules; else the first
-// rule that it breaks.
+/// The flow of a function of one block at least and the numbers of what each item names, where it keeps all
+/// rules; else the first rule that it breaks. That it is formed isn't asked.
 pub fn check(alloc: Global, func: &Func) -> Result<Result<Checked, VerifyFault>, NoMemory>
     requires some_block { 1 ≤ length func.now.blocks }
     ensures { IfOk result (λ answer. MatchResult answer (IsChecked func.now) (rules.Breaks func.now)) }

@@ -10,6 +10,8 @@ mod spot;
 mod tables;
 
 pub use fault::{Rejected, Spot, VerifyFault};
+pub use items::check;
+pub use paths::Checked;
 pub use sound::{Sound, verify};
 
 #[cfg(test)]

@@ -5,7 +5,7 @@ use std::test::Fail;
 // What stands before and behind so many copies of a piece, and what is said of the function with the last number of
 // copies that keeps the limit. `~` stands for LF, `#` for the number of the copy.
 const ROWS: &str = r#"define void @f(|i8 %x#, |i8 %x) {~a:~ ret void~}|63|kept
-define void @f() {~|b#:~ ret void~||256|kept
+define void @f() {~|b#:~ ret void~||256|unreached b0001
 define void @f(i8 %x) {~a:~| %v# = add i8 %x, 1~| ret void~|2047|kept
 define void @f() {~a:~| call void @llvm.assume(i1 true)~| ret void~|2048|kept
 define void @f() {~a:~ br label %b~b:~ %p = phi i8 [ 1, %a ]|, [ 1, %a ]|~ ret void~|2047|phi-entries b 0

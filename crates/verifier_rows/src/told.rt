@@ -1,5 +1,5 @@
 use ll_reader::read;
-use ll_verifier::{RuleFault, Spot, check_items};
+use ll_verifier::{Spot, VerifyFault, check};
 use std::alloc::Global;
 use std::fmt::Write;
 use std::test::Fail;
@@ -18,22 +18,38 @@ fn tell_named(told: &mut String, rule: &str, name: &Name) -> Result<(), Fail> {
     Ok(())
 }
 
-fn tell_fault(told: &mut String, fault: &RuleFault) -> Result<(), Fail> {
+fn tell_path(told: &mut String, word: &str, labels: &[Name]) -> Result<(), Fail> {
+    write!(told, "{word}")?;
+    for label in labels {
+        tell_named(told, "", label)?;
+    }
+    Ok(())
+}
+
+fn tell_fault(told: &mut String, fault: &VerifyFault) -> Result<(), Fail> {
     match fault {
-        RuleFault::TooMany(_) => write!(told, "too-many")?,
-        RuleFault::NameTwice { name } => tell_named(told, "name-twice", name)?,
-        RuleFault::NoSuchName { name, at } => {
+        VerifyFault::TooMany(_) => write!(told, "too-many")?,
+        VerifyFault::NameTwice { name } => tell_named(told, "name-twice", name)?,
+        VerifyFault::NoSuchName { name, at } => {
             tell_named(told, "no-such-name", name)?;
             tell(told, "", at)?;
         }
-        RuleFault::TypeDiffers { at } => tell(told, "type-differs", at)?,
-        RuleFault::DuplicateCase { at, value } => {
+        VerifyFault::TypeDiffers { at } => tell(told, "type-differs", at)?,
+        VerifyFault::DuplicateCase { at, value } => {
             write!(told, "duplicate-case {value}")?;
             tell(told, "", at)?;
         }
-        RuleFault::NotLinear { at } => tell(told, "not-linear", at)?,
-        RuleFault::BadDivisor { at } => tell(told, "bad-divisor", at)?,
-        RuleFault::PhiEntries { at } => tell(told, "phi-entries", at)?,
+        VerifyFault::NotLinear { at } => tell(told, "not-linear", at)?,
+        VerifyFault::BadDivisor { at } => tell(told, "bad-divisor", at)?,
+        VerifyFault::PhiEntries { at } => tell(told, "phi-entries", at)?,
+        VerifyFault::Loop { cycle } => tell_path(told, "loop", cycle.items())?,
+        VerifyFault::Unreached { block } => tell_named(told, "unreached", block)?,
+        VerifyFault::NotDefined { at, name, path } => {
+            tell_named(told, "not-defined", name)?;
+            tell(told, "", at)?;
+            tell_path(told, " on", path.items())?;
+        }
+        VerifyFault::NoMemory => write!(told, "no memory")?,
     }
     Ok(())
 }
@@ -48,7 +64,10 @@ pub fn told(alloc: Global, text: &[u8]) -> Result<String, Fail> {
         write!(told, "not read")?;
         return Ok(told);
     };
-    match check_items(alloc, &func)? {
+    if func.blocks.len() < 1 {
+        return Ok(told);
+    }
+    match check(alloc, &func)? {
         Ok(_) => write!(told, "kept")?,
         Err(fault) => tell_fault(&mut told, &fault)?,
     }
