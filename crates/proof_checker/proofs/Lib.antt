@@ -1,2 +1,8 @@
+mod ComesLaws
+mod EndLaws
+mod FedLaws
+mod KeptLaws
+mod LineLaws
+mod OnceLaws
 mod OneVerdictLaws
 mod ProofLaws

@@ -1,3 +1,5 @@
+pub mod Fed
+pub mod Kept
 pub mod Laws
 pub mod Outcome
 pub mod Place

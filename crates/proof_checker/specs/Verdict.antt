@@ -1,6 +1,6 @@
 -- The answer to a proof's text.
-use Rattle.std.specs.Prelude.{◌≡◌, ◌⊎◌, ℕ, ◌+◌, ◌==◌, List, [], ◌∷◌}
-use Rattle.std.specs.List.{slice_split}
+use Rattle.std.specs.Prelude.{◌≡◌, ◌⊎◌, ℕ, ◌+◌, ◌==◌, List, [], ◌∷◌, not}
+use Rattle.std.specs.List.{slice_split, prefix_len}
 use Rattle.mix_system.specs.declared.literal.Term.{Term}
 use Rattle.mix_system.specs.System.{System}
 use Rattle.proof_checker.specs.declared.verdict.Reason.{Reason}
@@ -13,6 +13,15 @@ use Rattle.proof_checker.specs.Outcome.{Next, Fails, Gives}
 -- the lines of a text, and at last what stands behind its last line feed
 abbrev pub lines : List ℕ → List (List ℕ)
 lines text = slice_split (λ byte. byte == 10) text
+
+-- how many bytes stand before the first line feed
+abbrev pub line_len : List ℕ → ℕ
+line_len bytes = prefix_len (λ byte. not (byte == 10)) bytes
+
+-- the lines behind the line feed with which some bytes begin
+abbrev pub lines_after : List ℕ → List (List ℕ)
+lines_after [] = []
+lines_after (byte ∷ bytes) = lines bytes
 
 -- the answer where the lines have come to a place and their text ends
 abbrev pub ended : Place → ℕ → Verdict
