@@ -1,5 +1,4 @@
 mod ComesLaws
-mod EndLaws
 mod FedLaws
 mod KeptLaws
 mod LineLaws
