@@ -15,8 +15,6 @@ mod settle;
 mod simplex;
 mod sums;
 mod tableau;
-#[cfg(test)]
-mod tests;
 mod value;
 
 pub use bounds::{Bounds, Mark};

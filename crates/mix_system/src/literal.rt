@@ -79,29 +79,3 @@ impl MadeWith<Global> for Lit {
         }
     }
 }
-
-#[cfg(test)]
-mod tests {
-    use super::*;
-
-    #[test]
-    fn literals_have_negations_and_an_order(rt: HostRuntime) {
-        let at_most = Lit {
-            term: Term::Row(0),
-            side: Side::Le,
-            bound: 4,
-        };
-        let above = Lit {
-            term: Term::Row(0),
-            side: Side::Ge,
-            bound: 5,
-        };
-        let of_var = Lit {
-            term: Term::Var(9),
-            side: Side::Ge,
-            bound: 7,
-        };
-        assert_eq!(rt; [at_most.negation(), above.negation()], [above, at_most]);
-        assert!(rt; of_var < at_most && at_most < above && Term::Var(1) < Term::Var(2));
-    }
-}

@@ -15,5 +15,3 @@ pub use proof::{Goal, Proof, Shape};
 pub use step::{MOST_NESTED, Step, Steps};
 pub use tree::{Node, Nodes, Tree};
 
-#[cfg(test)]
-mod tests;

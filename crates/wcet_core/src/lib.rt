@@ -20,5 +20,3 @@ pub use printed::text;
 pub use trial::{Best, Machine, try_all};
 pub use words::{Job, job_of};
 
-#[cfg(test)]
-mod tests;

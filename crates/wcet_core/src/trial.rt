@@ -158,5 +158,3 @@ fn last_value(width: u32) -> u32
     (1 << width) - 1
 }
 
-#[cfg(test)]
-mod tests;

@@ -11,5 +11,3 @@ pub use answer::{Answer, Bounds, How, PortionBound, UndefinedCause, Which, Witne
 pub use outcome::{Outcome, Written};
 pub use report::text;
 
-#[cfg(test)]
-mod tests;
