@@ -45,13 +45,17 @@ impl Combination {
         bounds: &Bounds<'_>,
         part: FarkasPart,
     ) -> Result<Result<(), Excess>, NoMemory>
-        requires exists { Exists (length bounds.now.system.ranges) (length bounds.now.system.rows) part.lit.term }
+        requires exists { Exists (length bounds.now.system.ranges)
+            (length bounds.now.system.rows) part.lit.term }
         requires count { length self.old.sums.items ≡ length bounds.now.system.ranges }
-        requires worked { AreWorked bounds.now.system.rows self.old.parts self.old.sums.items self.old.constant }
+        requires worked { AreWorked bounds.now.system.rows self.old.parts
+            self.old.sums.items self.old.constant }
         ensures count { length self.new.sums.items ≡ length self.old.sums.items }
-        ensures parts { IfOk result (λ found. OnOk found (self.new.parts ≡ self.old.parts ++ part ∷ [])) }
+        ensures parts { IfOk result (λ found. OnOk found (self.new.parts ≡ self.old.parts
+            ++ part ∷ [])) }
         ensures worked { IfOk result (λ found. OnOk found
-            (AreWorked bounds.now.system.rows self.new.parts self.new.sums.items self.new.constant)) }
+            (AreWorked bounds.now.system.rows self.new.parts
+            self.new.sums.items self.new.constant)) }
         ensures step { IfOk result (λ found. IfErr found
             (IsAmong (leaf_steps bounds.now.system.rows (self.old.parts ++ part ∷ [])))) }
         ensures overflows { IfOk result (λ found. IfErr found Overflows) }
@@ -71,14 +75,16 @@ impl Combination {
 
 // Puts a part's term to the sums, so many times.
 fn put_term(sums: &mut Vec<i128>, bounds: &Bounds<'_>, part: FarkasPart) -> Result<(), Excess>
-    requires exists { Exists (length bounds.now.system.ranges) (length bounds.now.system.rows) part.lit.term }
+    requires exists { Exists (length bounds.now.system.ranges)
+        (length bounds.now.system.rows) part.lit.term }
     requires count { length sums.old.items ≡ length bounds.now.system.ranges }
     ensures count { length sums.new.items ≡ length sums.old.items }
     ensures summed { OnOk result ((var : ℕ) → number_at sums.new.items var
         ≡ number_at sums.old.items var +ℤ weight bounds.now.system.rows var part) }
     ensures fit { OnOk result (All Fits (term_steps part.lit.side part.by (number_at sums.old.items)
         (parts_of bounds.now.system.rows part.lit.term))) }
-    ensures step { IfErr result (IsAmong (term_steps part.lit.side part.by (number_at sums.old.items)
+    ensures step { IfErr result (IsAmong (term_steps part.lit.side part.by
+        (number_at sums.old.items)
         (parts_of bounds.now.system.rows part.lit.term))) }
     ensures overflows { IfErr result Overflows }
 {
@@ -93,9 +99,11 @@ fn put_products(sums: &mut Vec<i128>, side: Side, by: i128, parts: &[Part]) -> R
     requires known { All (λ part. part.var < length sums.old.items) parts.now }
     ensures count { length sums.new.items ≡ length sums.old.items }
     ensures summed { OnOk result ((var : ℕ) → number_at sums.new.items var
-        ≡ number_at sums.old.items var +ℤ by_side side (by *ℤ int_sum_by (coeff_on var) parts.now)) }
+        ≡ number_at sums.old.items var +ℤ by_side side
+        (by *ℤ int_sum_by (coeff_on var) parts.now)) }
     ensures fit { OnOk result (All Fits (term_steps side by (number_at sums.old.items) parts.now)) }
-    ensures step { IfErr result (IsAmong (term_steps side by (number_at sums.old.items) parts.now)) }
+    ensures step { IfErr result (IsAmong (term_steps side by
+        (number_at sums.old.items) parts.now)) }
     ensures overflows { IfErr result Overflows }
 {
     for part in parts {
@@ -114,9 +122,18 @@ fn put_product(sums: &mut Vec<i128>, side: Side, by: i128, part: Part) -> Result
     ensures summed { OnOk result ((var : ℕ) → number_at sums.new.items var
         ≡ number_at sums.old.items var +ℤ by_side side (by *ℤ coeff_on var part)) }
     ensures fit { OnOk result (Fits (record { op = NumOp.Times; x = by; y = part.coeff })
-        × Fits (record { op = sum_op side; x = number_at sums.old.items part.var; y = by *ℤ part.coeff })) }
-    ensures step { IfErr result (λ excess. (excess ≡ record { op = NumOp.Times; x = by; y = part.coeff })
-        ⊎ (excess ≡ record { op = sum_op side; x = number_at sums.old.items part.var; y = by *ℤ part.coeff })) }
+        × Fits (record {
+          op = sum_op side;
+          x = number_at sums.old.items part.var;
+          y = by *ℤ part.coeff;
+        })) }
+    ensures step { IfErr result (λ excess. (excess
+        ≡ record { op = NumOp.Times; x = by; y = part.coeff })
+        ⊎ (excess ≡ record {
+          op = sum_op side;
+          x = number_at sums.old.items part.var;
+          y = by *ℤ part.coeff;
+        })) }
     ensures overflows { IfErr result Overflows }
 {
     let var = part.var as usize;
@@ -133,9 +150,18 @@ fn put_product(sums: &mut Vec<i128>, side: Side, by: i128, part: Part) -> Result
 fn put_bound(constant: i128, part: FarkasPart) -> Result<i128, Excess>
     ensures value { IfOk result (λ sum. sum ≡ constant +ℤ bound_weight part) }
     ensures fit { OnOk result (Fits (record { op = NumOp.Times; x = part.by; y = part.lit.bound })
-        × Fits (record { op = sum_op part.lit.side; x = constant; y = part.by *ℤ part.lit.bound })) }
-    ensures step { IfErr result (λ excess. (excess ≡ record { op = NumOp.Times; x = part.by; y = part.lit.bound })
-        ⊎ (excess ≡ record { op = sum_op part.lit.side; x = constant; y = part.by *ℤ part.lit.bound })) }
+        × Fits (record {
+          op = sum_op part.lit.side;
+          x = constant;
+          y = part.by *ℤ part.lit.bound;
+        })) }
+    ensures step { IfErr result (λ excess. (excess
+        ≡ record { op = NumOp.Times; x = part.by; y = part.lit.bound })
+        ⊎ (excess ≡ record {
+          op = sum_op part.lit.side;
+          x = constant;
+          y = part.by *ℤ part.lit.bound;
+        })) }
     ensures overflows { IfErr result Overflows }
 {
     put_to(part.lit.side, constant, part.by, part.lit.bound)
@@ -146,7 +172,8 @@ fn put_to(side: Side, sum: i128, by: i128, number: i128) -> Result<i128, Excess>
     ensures value { IfOk result (λ z. z ≡ sum +ℤ by_side side (by *ℤ number)) }
     ensures fit { OnOk result (Fits (record { op = NumOp.Times; x = by; y = number })
         × Fits (record { op = sum_op side; x = sum; y = by *ℤ number })) }
-    ensures step { IfErr result (λ excess. (excess ≡ record { op = NumOp.Times; x = by; y = number })
+    ensures step { IfErr result (λ excess. (excess
+        ≡ record { op = NumOp.Times; x = by; y = number })
         ⊎ (excess ≡ record { op = sum_op side; x = sum; y = by *ℤ number })) }
     ensures overflows { IfErr result Overflows }
 {

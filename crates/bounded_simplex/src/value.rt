@@ -58,7 +58,8 @@ impl Simplex<'_> {
         requires { Exists (length self.now.bounds.system.ranges)
             (length self.now.bounds.system.rows) term }
         ensures column { result ≡ column_of_term (length self.now.bounds.system.ranges) term }
-        ensures within { result < length self.now.bounds.system.ranges + length self.now.bounds.system.rows }
+        ensures within { result
+            < length self.now.bounds.system.ranges + length self.now.bounds.system.rows }
     {
         match term {
             Term::Var(var) => var,

@@ -61,7 +61,8 @@ pub fn solve_kept(
         → units tally.new ≡ tally.new.budget) }
     ensures counted { IfOk result (λ _. CountsHalving tally.old tally.new) }
     ensures tree { IfOk result (CountsTree tally.old tally.new) }
-    ensures kept { IfOk result (λ split. IsKept simplex.old.bounds tally.old tally.new split kept.new.nodes) }
+    ensures kept { IfOk result
+        (λ split. IsKept simplex.old.bounds tally.old tally.new split kept.new.nodes) }
     ensures no_memory { OnErr result (kept.new ≡ kept.old) }
 {
     let Searched { nodes, left, ended } = search_box(alloc, simplex, tally)?;

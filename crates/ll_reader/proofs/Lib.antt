@@ -5,6 +5,7 @@ mod DefineLineLaws
 mod DifferentLaws
 mod FileLineLaws
 mod FinderLaws
+mod FormedLaws
 mod KnownLaws
 mod LineLaws
 mod LowerLaws

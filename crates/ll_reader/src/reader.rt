@@ -4,6 +4,7 @@ ghost use Rattle.std.specs.Prelude.{◌≡◌, ◌⊎◌, ◌<◌, ◌^◌, IfOk
 ghost use Rattle.ll_token.specs.declared.token.Token.{Token};
 ghost use Rattle.ll_token.specs.Scan.{IsTokenOf};
 ghost use Rattle.ll_tree.specs.declared.func.Func.{Func};
+ghost use Rattle.ll_tree.specs.Formed.{IsFormed};
 ghost use Rattle.ll_grammar.specs.Tokens.{seen};
 ghost use Rattle.ll_grammar.specs.Header.{function};
 ghost use Rattle.ll_reader.specs.declared.finder.Found.TheVariants as founds;
@@ -93,6 +94,8 @@ pub fn read(alloc: Global, text: &[u8], function: &Name) -> Result<Func, ReadFau
     ensures stops { IfErr result (λ fault.
         (fault ≡ faults.NoMemory) ⊎ FileStops text.now function.now fault) }
 
+    ensures formed { IfOk result IsFormed }
+
     // What is so is answered.
     ensures only { (func : Func) → FileSpells text.now function.now func
         → (result ≡ Ok func) ⊎ (result ≡ Err faults.NoMemory) }
@@ -105,7 +108,7 @@ pub fn read(alloc: Global, text: &[u8], function: &Name) -> Result<Func, ReadFau
     }
 }
 
-/// A file spells one function under a name, or stops with one fault.
+/// A file spells one function under a name, which is formed, or stops with one fault.
 pub fn one_answer()
     ensures tree { (text name : List ℕ) (one other : Func)
         → FileSpells text name one → FileSpells text name other → one ≡ other }
@@ -113,4 +116,6 @@ pub fn one_answer()
         → FileStops text name one → FileStops text name other → one ≡ other }
     ensures not_both { (text name : List ℕ) (func : Func) (fault : ReadFault)
         → FileSpells text name func → FileStops text name fault → ⊥ }
+    ensures formed { (text name : List ℕ) (func : Func)
+        → FileSpells text name func → IsFormed func }
 {}

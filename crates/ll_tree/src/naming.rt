@@ -48,7 +48,8 @@ fn is_run_byte(byte: u8) -> bool
 }
 
 fn push_quoted(text: &mut Vec<u8>, name: &[u8]) -> Result<(), NoMemory>
-    ensures { OnOk result (text.new.items ≡ text.old.items ++ 34 ∷ (flat_map escaped name.now ++ 34 ∷ [])) }
+    ensures { OnOk result (text.new.items ≡ text.old.items
+        ++ 34 ∷ (flat_map escaped name.now ++ 34 ∷ [])) }
 {
     push(text, b"\"")?;
     push_all_escaped(text, name)?;

@@ -9,7 +9,8 @@ use crate::Entry;
 pub(crate) fn least_column(left: &[Entry], right: &[Entry]) -> Option<u32>
     requires left { IsSparse left.now }
     requires right { IsSparse right.now }
-    ensures first { MatchOption result ((length left.now ≡ 0) × (length right.now ≡ 0)) (λ column. BeginsAt column left.now ⊎ BeginsAt column right.now) }
+    ensures first { MatchOption result ((length left.now ≡ 0)
+        × (length right.now ≡ 0)) (λ column. BeginsAt column left.now ⊎ BeginsAt column right.now) }
     ensures of_left { IfSome result (λ column. All (λ entry. column ≤ entry.column) left.now) }
     ensures of_right { IfSome result (λ column. All (λ entry. column ≤ entry.column) right.now) }
 {

@@ -9,7 +9,8 @@ use wx_num::Num;
 /// The greatest common divisor of the coefficients.
 pub(crate) fn common_divisor(entries: &[Entry]) -> u128
     ensures divides { All (λ entry. result ∣ unsigned_abs entry.coeff) entries.now }
-    ensures greatest { (d : ℕ) → All (λ entry. d ∣ unsigned_abs entry.coeff) entries.now → d ∣ result }
+    ensures greatest { (d : ℕ) → All (λ entry. d ∣ unsigned_abs entry.coeff) entries.now
+        → d ∣ result }
 {
     let mut divisor = 0;
     for entry in entries {

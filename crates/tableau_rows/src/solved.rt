@@ -21,7 +21,8 @@ impl Equation {
         requires rising { AllPairs (λ part later. part.var < later.var) parts.now }
         requires nonzero { All (λ part. part.coeff ≢ pos 0) parts.now }
         ensures basic { IfOk result (λ equation. equation.basic ≡ basic) }
-        ensures entries { IfOk result (λ equation. equation.entries.items ≡ map entry_of parts.now ++ (record { column = basic; coeff = negsuc 0 }) ∷ []) }
+        ensures entries { IfOk result (λ equation. equation.entries.items ≡ map entry_of parts.now
+            ++ (record { column = basic; coeff = negsuc 0 }) ∷ []) }
     {
         let mut entries = Vec::with_capacity(alloc, parts.len())?;
         for part in parts {
@@ -51,8 +52,10 @@ impl Equation {
     /// The sum of the other entries where each column has a value: the numerator, over the denominator, of the basic column's value.
     pub fn numerator(&self, values: &[i128]) -> Result<i128, Excess>
         requires { All (λ entry. entry.column < length values.now) self.now.entries.items }
-        ensures value { IfOk result (λ sum. sum ≡ total (number_at values.now) (others self.now.basic self.now.entries.items)) }
-        ensures step { IfErr result (IsSumStep (number_at values.now) (others self.now.basic self.now.entries.items)) }
+        ensures value { IfOk result (λ sum. sum ≡ total (number_at values.now)
+            (others self.now.basic self.now.entries.items)) }
+        ensures step { IfErr result (IsSumStep (number_at values.now)
+            (others self.now.basic self.now.entries.items)) }
         ensures overflows { IfErr result Overflows }
     {
         sum_of_others(&self.entries, self.basic, values)
@@ -66,7 +69,8 @@ impl Equation {
     ) -> Result<Result<Equation, Excess>, NoMemory>
         requires { taken self.now column ≢ pos 0 }
         ensures basic { IfOk result (λ found. IfOk found (λ equation. equation.basic ≡ column)) }
-        ensures multiple { IfOk result (λ found. IfOk found (λ equation. IsMultiple equation self.now)) }
+        ensures multiple { IfOk result (λ found. IfOk found
+            (λ equation. IsMultiple equation self.now)) }
         ensures step { IfOk result (λ found. IfErr found (IsTurningStep self.now)) }
         ensures overflows { IfOk result (λ found. IfErr found Overflows) }
     {
@@ -107,10 +111,14 @@ impl Equation {
         requires apart { self.now.basic ≢ pivot.now.basic }
         requires pivot_without { taken pivot.now self.now.basic ≡ pos 0 }
         requires row_without { taken self.now pivot.now.basic ≡ pos 0 }
-        ensures basic { IfOk result (λ found. IfOk found (λ equation. equation.basic ≡ self.now.basic)) }
-        ensures combination { IfOk result (λ found. IfOk found (λ equation. IsCombination equation self.now pivot.now)) }
-        ensures gone { IfOk result (λ found. IfOk found (λ equation. taken equation entering ≡ pos 0)) }
-        ensures step { IfOk result (λ found. IfErr found (IsSubstitutionStep self.now pivot.now entering)) }
+        ensures basic { IfOk result (λ found. IfOk found (λ equation. equation.basic
+            ≡ self.now.basic)) }
+        ensures combination { IfOk result (λ found. IfOk found
+            (λ equation. IsCombination equation self.now pivot.now)) }
+        ensures gone { IfOk result (λ found. IfOk found (λ equation. taken equation entering
+            ≡ pos 0)) }
+        ensures step { IfOk result (λ found. IfErr found
+            (IsSubstitutionStep self.now pivot.now entering)) }
         ensures overflows { IfOk result (λ found. IfErr found Overflows) }
     {
         let substitution = Substitution::new(self, pivot, entering);
@@ -126,7 +134,9 @@ impl Equation {
         requires below { coefficient entries.items basic <ℤ pos 0 }
         requires fits { FitsSigned w128 (neg_ℤ (coefficient entries.items basic)) }
         ensures basic { result.basic ≡ basic }
-        ensures sums { (divisor : ℕ) × (0 < divisor) × ((number : ℕ → ℤ) → total number entries.items ≡ pos divisor *ℤ sum_at number result) }
+        ensures sums { (divisor : ℕ) × (0 < divisor)
+            × ((number : ℕ → ℤ) → total number entries.items
+            ≡ pos divisor *ℤ sum_at number result) }
     {
         let divisor = common_divisor(&entries);
         let entries = divided(entries, divisor);
@@ -142,7 +152,8 @@ impl Equation {
 // The sum of the entries beside the basic column.
 fn sum_of_others(entries: &[Entry], basic: u32, values: &[i128]) -> Result<i128, Excess>
     requires { All (λ entry. entry.column < length values.now) entries.now }
-    ensures value { IfOk result (λ sum. sum ≡ total (number_at values.now) (others basic entries.now)) }
+    ensures value { IfOk result (λ sum. sum ≡ total (number_at values.now)
+        (others basic entries.now)) }
     ensures step { IfErr result (IsSumStep (number_at values.now) (others basic entries.now)) }
     ensures overflows { IfErr result Overflows }
 {
@@ -164,8 +175,10 @@ fn turned_entries(
     turn: bool,
 ) -> Result<Result<Vec<Entry>, Excess>, NoMemory>
     requires { IsSparse entries.now }
-    ensures turned { IfOk result (λ found. IfOk found (λ made. made.items ≡ map (turned_entry turn) entries.now)) }
-    ensures step { IfOk result (λ found. IfErr found (λ step. (column : ℕ) × (step ≡ record { op = NumOp.Minus; x = pos 0; y = coefficient entries.now column }))) }
+    ensures turned { IfOk result (λ found. IfOk found (λ made. made.items
+        ≡ map (turned_entry turn) entries.now)) }
+    ensures step { IfOk result (λ found. IfErr found (λ step. (column : ℕ)
+        × (step ≡ record { op = NumOp.Minus; x = pos 0; y = coefficient entries.now column }))) }
     ensures overflows { IfOk result (λ found. IfErr found Overflows) }
 {
     let mut made = Vec::with_capacity(alloc, entries.len())?;

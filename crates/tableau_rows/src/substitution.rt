@@ -53,10 +53,16 @@ impl Substitution<'_> {
     pub(crate) fn entries(&self, alloc: Global) -> Result<Result<Vec<Entry>, Excess>, NoMemory>
         requires proper { IsProper self.now }
         ensures sparse { IfOk result (λ found. IfOk found (λ entries. IsSparse entries.items)) }
-        ensures sums { IfOk result (λ found. IfOk found (λ entries. (number : ℕ → ℤ) → total number entries.items
-            ≡ turned self.now.of_row (self.now.of_row *ℤ sum_at number self.now.row.now -ℤ self.now.of_pivot *ℤ sum_at number self.now.pivot.now))) }
-        ensures own { IfOk result (λ found. IfOk found (λ entries. FitsSigned w128 (neg_ℤ (coefficient entries.items self.now.row.now.basic)))) }
-        ensures step { IfOk result (λ found. IfErr found (IsStep self.now.row.now self.now.pivot.now self.now.of_row self.now.of_pivot self.now.entering)) }
+        ensures sums { IfOk result (λ found. IfOk found (λ entries. (number : ℕ → ℤ)
+            → total number entries.items
+            ≡ turned self.now.of_row (self.now.of_row *ℤ sum_at number self.now.row.now
+            -ℤ self.now.of_pivot *ℤ sum_at number self.now.pivot.now))) }
+        ensures own { IfOk result (λ found. IfOk found
+            (λ entries. FitsSigned w128
+            (neg_ℤ (coefficient entries.items self.now.row.now.basic)))) }
+        ensures step { IfOk result (λ found. IfErr found
+            (IsStep self.now.row.now self.now.pivot.now self.now.of_row self.now.of_pivot
+            self.now.entering)) }
         ensures overflows { IfOk result (λ found. IfErr found Overflows) }
     {
         let mut entries = Vec::new(alloc);
@@ -88,9 +94,13 @@ impl Substitution<'_> {
         requires stays { column ≢ self.now.entering }
         requires row { in_row ≡ taken self.now.row.now column }
         requires pivot { in_pivot ≡ taken self.now.pivot.now column }
-        ensures value { IfOk result (λ z. z ≡ turned self.now.of_row (self.now.of_row *ℤ in_row -ℤ self.now.of_pivot *ℤ in_pivot)) }
-        ensures own { column ≡ self.now.row.now.basic → IfOk result (λ z. FitsSigned w128 (neg_ℤ z)) }
-        ensures step { IfErr result (IsStep self.now.row.now self.now.pivot.now self.now.of_row self.now.of_pivot self.now.entering) }
+        ensures value { IfOk result (λ z. z ≡ turned self.now.of_row
+            (self.now.of_row *ℤ in_row -ℤ self.now.of_pivot *ℤ in_pivot)) }
+        ensures own { column ≡ self.now.row.now.basic
+            → IfOk result (λ z. FitsSigned w128 (neg_ℤ z)) }
+        ensures step { IfErr result
+            (IsStep self.now.row.now self.now.pivot.now self.now.of_row self.now.of_pivot
+            self.now.entering) }
         ensures overflows { IfErr result Overflows }
     {
         if column == self.row.basic {
@@ -105,9 +115,12 @@ impl Substitution<'_> {
     // That of the row's own column: the new denominator with its sign turned.
     fn own(&self) -> Result<i128, Excess>
         requires proper { IsProper self.now }
-        ensures value { IfOk result (λ z. z ≡ turned self.now.of_row (self.now.of_row *ℤ taken self.now.row.now self.now.row.now.basic)) }
+        ensures value { IfOk result (λ z. z ≡ turned self.now.of_row
+            (self.now.of_row *ℤ taken self.now.row.now self.now.row.now.basic)) }
         ensures own { IfOk result (λ z. FitsSigned w128 (neg_ℤ z)) }
-        ensures step { IfErr result (IsStep self.now.row.now self.now.pivot.now self.now.of_row self.now.of_pivot self.now.entering) }
+        ensures step { IfErr result
+            (IsStep self.now.row.now self.now.pivot.now self.now.of_row self.now.of_pivot
+            self.now.entering) }
         ensures overflows { IfErr result Overflows }
     {
         match Num::mul(self.of_row, self.row.denominator) {
@@ -122,8 +135,11 @@ impl Substitution<'_> {
     // That of the column that leaves the basis.
     fn leaving(&self) -> Result<i128, Excess>
         requires proper { IsProper self.now }
-        ensures value { IfOk result (λ z. z ≡ turned self.now.of_row (self.now.of_pivot *ℤ self.now.pivot.now.denominator)) }
-        ensures step { IfErr result (IsStep self.now.row.now self.now.pivot.now self.now.of_row self.now.of_pivot self.now.entering) }
+        ensures value { IfOk result (λ z. z ≡ turned self.now.of_row
+            (self.now.of_pivot *ℤ self.now.pivot.now.denominator)) }
+        ensures step { IfErr result
+            (IsStep self.now.row.now self.now.pivot.now self.now.of_row self.now.of_pivot
+            self.now.entering) }
         ensures overflows { IfErr result Overflows }
     {
         match Num::mul(self.of_pivot, self.pivot.denominator) {
@@ -137,8 +153,11 @@ impl Substitution<'_> {
         requires stays { column ≢ self.now.entering }
         requires row { in_row ≡ taken self.now.row.now column }
         requires pivot { in_pivot ≡ taken self.now.pivot.now column }
-        ensures value { IfOk result (λ z. z ≡ turned self.now.of_row (self.now.of_row *ℤ in_row -ℤ self.now.of_pivot *ℤ in_pivot)) }
-        ensures step { IfErr result (IsStep self.now.row.now self.now.pivot.now self.now.of_row self.now.of_pivot self.now.entering) }
+        ensures value { IfOk result (λ z. z ≡ turned self.now.of_row
+            (self.now.of_row *ℤ in_row -ℤ self.now.of_pivot *ℤ in_pivot)) }
+        ensures step { IfErr result
+            (IsStep self.now.row.now self.now.pivot.now self.now.of_row self.now.of_pivot
+            self.now.entering) }
         ensures overflows { IfErr result Overflows }
     {
         let from_row = match Num::mul(self.of_row, in_row) {
@@ -158,7 +177,8 @@ impl Substitution<'_> {
     // The number, with its sign turned where the row's factor is below 0.
     fn oriented(&self, number: i128) -> Result<i128, Excess>
         ensures value { IfOk result (λ z. z ≡ turned self.now.of_row number) }
-        ensures turned { IfErr result (λ excess. (self.now.of_row <ℤ pos 0) × (excess ≡ record { op = NumOp.Minus; x = pos 0; y = number })) }
+        ensures turned { IfErr result (λ excess. (self.now.of_row <ℤ pos 0)
+            × (excess ≡ record { op = NumOp.Minus; x = pos 0; y = number })) }
         ensures overflows { IfErr result Overflows }
     {
         if self.of_row < 0 {
@@ -173,8 +193,10 @@ fn put(entries: &mut Vec<Entry>, entry: Entry) -> Result<(), NoMemory>
     requires sparse { IsSparseList entries.old.items }
     requires last { All (λ before. before.column < entry.column) entries.old.items }
     ensures sparse { OnOk result (IsSparseList entries.new.items) }
-    ensures last { OnOk result (All (λ before. before.column < entry.column + 1) entries.new.items) }
-    ensures sums { OnOk result ((number : ℕ → ℤ) → total_of number entries.new.items ≡ total_of number entries.old.items +ℤ entry.coeff *ℤ number entry.column) }
+    ensures last { OnOk result
+        (All (λ before. before.column < entry.column + 1) entries.new.items) }
+    ensures sums { OnOk result ((number : ℕ → ℤ) → total_of number entries.new.items
+        ≡ total_of number entries.old.items +ℤ entry.coeff *ℤ number entry.column) }
 {
     if entry.coeff != 0 {
         entries.push(entry)?;

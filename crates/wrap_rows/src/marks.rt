@@ -54,7 +54,8 @@ pub fn add_marks(
 ) -> Result<(), NoMemory>
     requires mark { mark < length into.old.ranges }
     requires operands { All (λ operand. operand < length into.old.ranges) operands.now }
-    requires known { All (λ lit. Exists (length into.old.ranges) (length into.old.rows) lit.term) listed.now }
+    requires known { All (λ lit. Exists (length into.old.ranges)
+        (length into.old.rows) lit.term) listed.now }
     requires inner { All (λ lit. IsInner lit.bound) listed.now }
     requires opposite { All (λ lit. IsInner (negation lit).bound) listed.now }
     requires room { length into.old.clauses + length operands.now + length listed.now + 1 < 2 ^ 31 }
@@ -100,7 +101,8 @@ fn add_listed_marks(
     listed: &[Lit],
 ) -> Result<(), NoMemory>
     requires mark { mark < length into.old.ranges }
-    requires known { All (λ lit. Exists (length into.old.ranges) (length into.old.rows) lit.term) listed.now }
+    requires known { All (λ lit. Exists (length into.old.ranges)
+        (length into.old.rows) lit.term) listed.now }
     requires inner { All (λ lit. IsInner lit.bound) listed.now }
     requires opposite { All (λ lit. IsInner (negation lit).bound) listed.now }
     requires room { length into.old.clauses + length listed.now < 2 ^ 31 }

@@ -73,7 +73,10 @@ pub fn add_sum(alloc: Global, into: &mut System, parts: &[Part]) -> Result<u32, 
     requires small { sizes parts.now < 2 ^ 126 }
     requires room { length into.old.rows + 1 < 2 ^ 31 }
     ensures number { IfOk result (λ row. row ≡ length into.old.rows) }
-    ensures ok { OnOk result (into.new ≡ record into.old { rows = into.old.rows ++ row_of parts.now ∷ [] }) }
+    ensures ok { OnOk result (into.new ≡ record into.old {
+      rows = into.old.rows
+          ++ row_of parts.now ∷ [];
+    }) }
     ensures err { OnErr result (into.new ≡ into.old) }
 {
     let mut row = SmallVec::new(alloc);
@@ -119,10 +122,14 @@ fn push_new(lits: &mut Lits, lit: Lit) -> Result<(), NoMemory>
 ///
 /// Where memory is wanting the system stands as before.
 pub fn add_lits(alloc: Global, into: &mut System, lits: &[Lit]) -> Result<(), NoMemory>
-    requires known { All (λ lit. Exists (length into.old.ranges) (length into.old.rows) lit.term) lits.now }
+    requires known { All (λ lit. Exists (length into.old.ranges)
+        (length into.old.rows) lit.term) lits.now }
     requires inner { All (λ lit. IsInner lit.bound) lits.now }
     requires room { length into.old.clauses + 1 < 2 ^ 31 }
-    ensures ok { OnOk result (into.new ≡ record into.old { clauses = into.old.clauses ++ clause_of lits.now ∷ [] }) }
+    ensures ok { OnOk result (into.new ≡ record into.old {
+      clauses = into.old.clauses
+          ++ clause_of lits.now ∷ [];
+    }) }
     ensures err { OnErr result (into.new ≡ into.old) }
 {
     let mut clause = SmallVec::new(alloc);

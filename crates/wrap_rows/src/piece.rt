@@ -47,7 +47,10 @@ pub trait Piece {
         requires at { is_at self.now (length into.old.ranges) }
         requires room { length into.old.ranges + length (ranges self.now) < 2 ^ 31 }
         ensures number { IfOk result (λ first. first ≡ length into.old.ranges) }
-        ensures ok { OnOk result (into.new ≡ record into.old { ranges = into.old.ranges ++ ranges self.now }) };
+        ensures ok { OnOk result (into.new ≡ record into.old {
+          ranges = into.old.ranges
+              ++ ranges self.now;
+        }) };
 
     /// Adds its rows and clauses, which name no other rows.
     ///
@@ -57,7 +60,8 @@ pub trait Piece {
         requires known { first + length (ranges self.now) ≤ length into.old.ranges }
         requires few_vars { length into.old.ranges < 2 ^ 31 }
         requires rows { length into.old.rows + length (layout self.now first).rows < 2 ^ 31 }
-        requires clauses { length into.old.clauses + length (layout self.now first).clauses < 2 ^ 31 }
+        requires clauses { length into.old.clauses + length
+            (layout self.now first).clauses < 2 ^ 31 }
         ensures ok { OnOk result (Lays (layout self.now first) into.old into.new) }
         ensures own_rows { names_own_rows (layout self.now first) ≡ true };
 

@@ -87,7 +87,8 @@ impl Ranged {
         requires mark { mark < length into.old.ranges }
         requires room { length into.old.clauses + 3 < 2 ^ 31 }
         ensures { OnOk result (into.new ≡ record into.old {
-          clauses = into.old.clauses ++ map clause_of (between_clauses self.now.number self.now.low self.now.high mark);
+          clauses = into.old.clauses
+              ++ map clause_of (between_clauses self.now.number self.now.low self.now.high mark);
         }) }
     {
         let number = Term::Var(self.number);
@@ -109,7 +110,8 @@ impl Ranged {
         requires mark { mark < length into.old.ranges }
         requires room { length into.old.clauses + 3 < 2 ^ 31 }
         ensures { OnOk result (into.new ≡ record into.old {
-          clauses = into.old.clauses ++ map clause_of (around_clauses self.now.number self.now.low self.now.high mark);
+          clauses = into.old.clauses
+              ++ map clause_of (around_clauses self.now.number self.now.low self.now.high mark);
         }) }
     {
         let number = Term::Var(self.number);

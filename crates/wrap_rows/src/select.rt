@@ -112,7 +112,8 @@ impl Select {
         requires room { length into.old.clauses + 5 < 2 ^ 31 }
         ensures { OnOk result (into.new ≡ record into.old {
           clauses =
-              into.old.clauses ++ map clause_of (raising_clauses self.now mark ++ closing_clauses self.now mark);
+              into.old.clauses ++ map clause_of (raising_clauses self.now mark
+              ++ closing_clauses self.now mark);
         }) }
     {
         self.add_raising(alloc, mark, into)?;

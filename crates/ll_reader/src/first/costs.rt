@@ -52,7 +52,8 @@ fn cost_at<'a>(bytes: &'a [u8], label: &[u8]) -> Option<(u32, &'a [u8])>
 
 // The costs of a table of these blocks.
 fn table_at(alloc: Global, text: &[u8], blocks: &[Block]) -> Result<Sequence<u32>, ReadError>
-    ensures { Gives (λ costs. costs) result (table_at (map (λ block. block.label) blocks.now) text.now) }
+    ensures { Gives (λ costs. costs) result (table_at
+        (map (λ block. block.label) blocks.now) text.now) }
 {
     let mut costs = Sequence::new(alloc);
     let mut rest = after(text, b"wcet costs 1\n").ok_or(ReadError::NotYet)?;
@@ -74,8 +75,10 @@ fn table_at(alloc: Global, text: &[u8], blocks: &[Block]) -> Result<Sequence<u32
 /// and `NoMemory` where there is no memory for the costs.
 pub fn read_costs(alloc: Global, text: &[u8], sound: &Sound) -> Result<Costs, ReadError>
     ensures ok { IfOk result (λ costs. Table text.now sound.now costs) }
-    ensures only { IfOk result (λ costs. (others : List ℕ) → Table text.now sound.now others → others ≡ costs) }
-    ensures not_yet { result ≡ Err ReadError.NotYet → (costs : List ℕ) → Table text.now sound.now costs → ⊥ }
+    ensures only { IfOk result (λ costs. (others : List ℕ) → Table text.now sound.now others
+        → others ≡ costs) }
+    ensures not_yet { result ≡ Err ReadError.NotYet → (costs : List ℕ)
+        → Table text.now sound.now costs → ⊥ }
 {
     let costs = table_at(alloc, text, sound.func().blocks.items())?;
     Ok(Costs { costs })

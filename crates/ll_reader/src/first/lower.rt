@@ -129,7 +129,8 @@ fn block_code<'a>(
     requires different { AreDifferent (params.now ++ results_of block.now.body) }
     requires few { length params.now + length block.now.body < 2 ^ 32 }
     requires labels { length labels.now < 2 ^ 32 }
-    ensures { Gives (λ code. code) result (block_code ret labels.now (known_params params.now) at block.now) }
+    ensures { Gives (λ code. code) result (block_code ret labels.now
+        (known_params params.now) at block.now) }
 {
     let mut scope = Scope::new(alloc, params);
     let steps = steps_of(alloc, &mut scope, block.body.items())?;
@@ -146,11 +147,13 @@ fn blocks_code<'a>(
     labels: &NameTable<'a>,
     blocks: &'a [Block],
 ) -> Result<Sequence<BlockCode>, ReadError>
-    requires different { AreDifferent (params.now ++ flat_map (λ block. block.label ∷ results_of block.body) blocks.now) }
+    requires different { AreDifferent (params.now
+        ++ flat_map (λ block. block.label ∷ results_of block.body) blocks.now) }
     requires few { length params.now + sum_by (λ block. length block.body) blocks.now < 2 ^ 32 }
     requires count { length blocks.now < 2 ^ 32 }
     requires labels { length labels.now < 2 ^ 32 }
-    ensures { Gives (λ codes. codes) result (blocks_code ret labels.now (known_params params.now) 0 blocks.now) }
+    ensures { Gives (λ codes. codes) result (blocks_code ret labels.now
+        (known_params params.now) 0 blocks.now) }
 {
     let mut codes = Sequence::new(alloc);
     for (at, block) in blocks.iter().enumerate() {
@@ -165,7 +168,9 @@ fn blocks_code<'a>(
 // Marks the targets of an exit.
 fn mark(reached: &mut [bool], exit: &Exit)
     ensures { (place : ℕ) → place < length reached.old
-        → slice_index_or reached.new place false ≡ (slice_index_or reached.old place false || list_any (λ to. to == place) (exits_of exit.now)) }
+        → slice_index_or reached.new place false
+        ≡ (slice_index_or reached.old place false || list_any (λ to. to == place)
+        (exits_of exit.now)) }
 {
     match exit {
         Exit::RetVoid => {}
@@ -180,7 +185,8 @@ fn mark(reached: &mut [bool], exit: &Exit)
 
 fn mark_one(reached: &mut [bool], to: u32)
     ensures { (place : ℕ) → place < length reached.old
-        → slice_index_or reached.new place false ≡ (slice_index_or reached.old place false || (to == place)) }
+        → slice_index_or reached.new place false
+        ≡ (slice_index_or reached.old place false || (to == place)) }
 {
     if (to as usize) < reached.len() {
         reached[to as usize] = true;
@@ -189,7 +195,8 @@ fn mark_one(reached: &mut [bool], to: u32)
 
 // Whether all but the first are marked.
 fn all_marked(reached: &[bool]) -> bool
-    ensures { result ≡ list_all (λ place. slice_index_or reached.now place false) (range_with_len 1 (length reached.now - 1)) }
+    ensures { result ≡ list_all (λ place. slice_index_or reached.now place false)
+        (range_with_len 1 (length reached.now - 1)) }
 {
     for place in 1..reached.len() {
         if !reached[place] {

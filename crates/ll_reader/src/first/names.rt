@@ -37,8 +37,10 @@ fn add_results<'a>(table: &mut NameTable<'a>, body: &'a [Instr]) -> Result<bool,
 }
 
 fn add_block<'a>(table: &mut NameTable<'a>, block: &'a Block) -> Result<bool, NoMemory>
-    ensures new { IfOk result (λ new. new ≡ fresh table.old (block.now.label ∷ results_of block.now.body)) }
-    ensures table { IfOk result (λ new. OnTrue new (table.new ≡ table.old ++ block.now.label ∷ results_of block.now.body)) }
+    ensures new { IfOk result (λ new. new ≡ fresh table.old
+        (block.now.label ∷ results_of block.now.body)) }
+    ensures table { IfOk result (λ new. OnTrue new (table.new ≡ table.old
+        ++ block.now.label ∷ results_of block.now.body)) }
 {
     if !table.add(block.label.bytes())? {
         return Ok(false);
@@ -47,7 +49,8 @@ fn add_block<'a>(table: &mut NameTable<'a>, block: &'a Block) -> Result<bool, No
 }
 
 fn add_blocks<'a>(table: &mut NameTable<'a>, blocks: &'a [Block]) -> Result<bool, NoMemory>
-    ensures new { IfOk result (λ new. new ≡ fresh table.old (flat_map (λ block. block.label ∷ results_of block.body) blocks.now)) }
+    ensures new { IfOk result (λ new. new ≡ fresh table.old
+        (flat_map (λ block. block.label ∷ results_of block.body) blocks.now)) }
 {
     for block in blocks {
         if !add_block(table, block)? {

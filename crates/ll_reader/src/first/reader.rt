@@ -56,7 +56,8 @@ fn line_len(bytes: &[u8]) -> usize
 // The first line without its line feed, and what follows that; nothing where no line feed is left.
 fn first_line(bytes: &[u8]) -> Option<(&[u8], &[u8])>
     ensures { MatchOption result (split bytes.now ≡ bytes.now ∷ [])
-        (λ line. (split bytes.now ≡ line.0.now ∷ split line.1.now) × (length line.1.now < length bytes.now)) }
+        (λ line. (split bytes.now ≡ line.0.now ∷ split line.1.now)
+        × (length line.1.now < length bytes.now)) }
 {
     let end = line_len(bytes);
     if end >= bytes.len() {
@@ -164,8 +165,10 @@ fn sound_of(alloc: Global, func: Func, name: &Name) -> Result<Sound, ReadError>
 /// where there is no memory for the function.
 pub fn read(alloc: Global, text: &[u8], name: &Name) -> Result<Sound, ReadError>
     ensures ok { IfOk result (λ sound. Spells text.now name.now sound) }
-    ensures only { IfOk result (λ sound. (func : Func) → Spells text.now name.now func → func ≡ sound) }
-    ensures not_yet { result ≡ Err ReadError.NotYet → (func : Func) → Spells text.now name.now func → ⊥ }
+    ensures only { IfOk result (λ sound. (func : Func) → Spells text.now name.now func → func
+        ≡ sound) }
+    ensures not_yet { result ≡ Err ReadError.NotYet → (func : Func) → Spells text.now name.now func
+        → ⊥ }
 {
     match parse(alloc, text) {
         Ok(func) => sound_of(alloc, func, name),

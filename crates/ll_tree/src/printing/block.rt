@@ -30,7 +30,8 @@ fn push_end_line(text: &mut Vec<u8>, end: &End) -> Result<(), NoMemory>
 }
 
 fn push_phis(text: &mut Vec<u8>, phis: &[Phi]) -> Result<(), NoMemory>
-    ensures { OnOk result (text.new.items ≡ text.old.items ++ flat_map (λ phi. written (line (phi_pieces phi))) phis.now) }
+    ensures { OnOk result (text.new.items ≡ text.old.items
+        ++ flat_map (λ phi. written (line (phi_pieces phi))) phis.now) }
 {
     for phi in phis {
         push_phi_line(text, phi)?;
@@ -51,7 +52,8 @@ fn push_phi_line(text: &mut Vec<u8>, phi: &Phi) -> Result<(), NoMemory>
 }
 
 fn push_entries(text: &mut Vec<u8>, width: u32, entries: &[PhiEntry]) -> Result<(), NoMemory>
-    ensures { OnOk result (text.new.items ≡ text.old.items ++ written (separated (entry_pieces width) entries.now)) }
+    ensures { OnOk result (text.new.items ≡ text.old.items
+        ++ written (separated (entry_pieces width) entries.now)) }
 {
     match entries {
         [] => Ok(()),
@@ -73,14 +75,16 @@ fn push_more_entries(text: &mut Vec<u8>, width: u32, entries: &[PhiEntry]) -> Re
 }
 
 fn push_next_entry(text: &mut Vec<u8>, width: u32, entry: &PhiEntry) -> Result<(), NoMemory>
-    ensures { OnOk result (text.new.items ≡ text.old.items ++ written (Mark 44 ∷ Blank ∷ entry_pieces width entry.now)) }
+    ensures { OnOk result (text.new.items ≡ text.old.items
+        ++ written (Mark 44 ∷ Blank ∷ entry_pieces width entry.now)) }
 {
     push(text, b", ")?;
     push_entry(text, width, entry)
 }
 
 fn push_entry(text: &mut Vec<u8>, width: u32, entry: &PhiEntry) -> Result<(), NoMemory>
-    ensures { OnOk result (text.new.items ≡ text.old.items ++ written (entry_pieces width entry.now)) }
+    ensures { OnOk result (text.new.items ≡ text.old.items
+        ++ written (entry_pieces width entry.now)) }
 {
     push(text, b"[ ")?;
     push_operand(text, width, &entry.value)?;
@@ -90,7 +94,8 @@ fn push_entry(text: &mut Vec<u8>, width: u32, entry: &PhiEntry) -> Result<(), No
 }
 
 fn push_body(text: &mut Vec<u8>, body: &[Instr]) -> Result<(), NoMemory>
-    ensures { OnOk result (text.new.items ≡ text.old.items ++ flat_map (λ instr. written (line (instr_pieces instr))) body.now) }
+    ensures { OnOk result (text.new.items ≡ text.old.items
+        ++ flat_map (λ instr. written (line (instr_pieces instr))) body.now) }
 {
     for instr in body {
         push_instr_line(text, instr)?;
@@ -99,7 +104,8 @@ fn push_body(text: &mut Vec<u8>, body: &[Instr]) -> Result<(), NoMemory>
 }
 
 fn push_instr_line(text: &mut Vec<u8>, instr: &Instr) -> Result<(), NoMemory>
-    ensures { OnOk result (text.new.items ≡ text.old.items ++ written (line (instr_pieces instr.now))) }
+    ensures { OnOk result (text.new.items ≡ text.old.items
+        ++ written (line (instr_pieces instr.now))) }
 {
     push(text, b"  ")?;
     push_instr(text, instr)?;
@@ -132,7 +138,8 @@ fn push_end(text: &mut Vec<u8>, end: &End) -> Result<(), NoMemory>
 }
 
 fn push_cond_br(text: &mut Vec<u8>, cond: &Operand, yes: &Name, no: &Name) -> Result<(), NoMemory>
-    ensures { OnOk result (text.new.items ≡ text.old.items ++ written (cond_br_pieces cond.now yes.now no.now)) }
+    ensures { OnOk result (text.new.items ≡ text.old.items
+        ++ written (cond_br_pieces cond.now yes.now no.now)) }
 {
     push(text, b"br ")?;
     push_typed(text, 1, cond)?;
@@ -147,7 +154,8 @@ fn push_switch(
     default: &Name,
     cases: &[Case],
 ) -> Result<(), NoMemory>
-    ensures { OnOk result (text.new.items ≡ text.old.items ++ written (switch_pieces width value.now default.now cases.now)) }
+    ensures { OnOk result (text.new.items ≡ text.old.items
+        ++ written (switch_pieces width value.now default.now cases.now)) }
 {
     push(text, b"switch ")?;
     push_typed(text, width, value)?;
@@ -165,14 +173,16 @@ fn push_target(text: &mut Vec<u8>, to: &Name) -> Result<(), NoMemory>
 }
 
 fn push_next_target(text: &mut Vec<u8>, to: &Name) -> Result<(), NoMemory>
-    ensures { OnOk result (text.new.items ≡ text.old.items ++ written (Mark 44 ∷ Blank ∷ target to.now)) }
+    ensures { OnOk result (text.new.items ≡ text.old.items
+        ++ written (Mark 44 ∷ Blank ∷ target to.now)) }
 {
     push(text, b", ")?;
     push_target(text, to)
 }
 
 fn push_cases(text: &mut Vec<u8>, cases: &[Case]) -> Result<(), NoMemory>
-    ensures { OnOk result (text.new.items ≡ text.old.items ++ flat_map (λ case. written (case_pieces case)) cases.now) }
+    ensures { OnOk result (text.new.items ≡ text.old.items
+        ++ flat_map (λ case. written (case_pieces case)) cases.now) }
 {
     for case in cases {
         push_case(text, case)?;

@@ -72,7 +72,8 @@ fn width_of(ret: Ret) -> u32
 }
 
 fn push_ret_range(text: &mut Vec<u8>, ret: Ret, range: &Option<Range>) -> Result<(), NoMemory>
-    ensures { OnOk result (text.new.items ≡ text.old.items ++ written (range_pieces (ret_piece ret) (ret_width ret) range.now)) }
+    ensures { OnOk result (text.new.items ≡ text.old.items
+        ++ written (range_pieces (ret_piece ret) (ret_width ret) range.now)) }
 {
     match range {
         None => Ok(()),
@@ -87,7 +88,8 @@ fn push_ret_range(text: &mut Vec<u8>, ret: Ret, range: &Option<Range>) -> Result
 // The bounds of a range behind its type, with a blank before and behind them.
 fn push_bounds(text: &mut Vec<u8>, width: u32, range: &Range) -> Result<(), NoMemory>
     ensures { OnOk result (text.new.items ≡ text.old.items
-        ++ written (Blank ∷ literal width range.now.lo ∷ Mark 44 ∷ Blank ∷ literal width range.now.hi ∷ Mark 41 ∷ Blank ∷ [])) }
+        ++ written (Blank ∷ literal width range.now.lo ∷ Mark 44 ∷ Blank
+        ∷ literal width range.now.hi ∷ Mark 41 ∷ Blank ∷ [])) }
 {
     push(text, b" ")?;
     push_literal(text, width, range.lo)?;
@@ -97,7 +99,8 @@ fn push_bounds(text: &mut Vec<u8>, width: u32, range: &Range) -> Result<(), NoMe
 }
 
 fn push_params(text: &mut Vec<u8>, params: &[Param]) -> Result<(), NoMemory>
-    ensures { OnOk result (text.new.items ≡ text.old.items ++ written (separated param_pieces params.now)) }
+    ensures { OnOk result (text.new.items ≡ text.old.items
+        ++ written (separated param_pieces params.now)) }
 {
     match params {
         [] => Ok(()),
@@ -119,7 +122,8 @@ fn push_more_params(text: &mut Vec<u8>, params: &[Param]) -> Result<(), NoMemory
 }
 
 fn push_next_param(text: &mut Vec<u8>, param: &Param) -> Result<(), NoMemory>
-    ensures { OnOk result (text.new.items ≡ text.old.items ++ written (Mark 44 ∷ Blank ∷ param_pieces param.now)) }
+    ensures { OnOk result (text.new.items ≡ text.old.items
+        ++ written (Mark 44 ∷ Blank ∷ param_pieces param.now)) }
 {
     push(text, b", ")?;
     push_param(text, param)
@@ -137,7 +141,8 @@ fn push_param(text: &mut Vec<u8>, param: &Param) -> Result<(), NoMemory>
 }
 
 fn push_param_range(text: &mut Vec<u8>, width: u32, range: &Option<Range>) -> Result<(), NoMemory>
-    ensures { OnOk result (text.new.items ≡ text.old.items ++ written (range_pieces (Bits width) width range.now)) }
+    ensures { OnOk result (text.new.items ≡ text.old.items
+        ++ written (range_pieces (Bits width) width range.now)) }
 {
     match range {
         None => Ok(()),
@@ -150,7 +155,8 @@ fn push_param_range(text: &mut Vec<u8>, width: u32, range: &Option<Range>) -> Re
 }
 
 fn push_blocks(text: &mut Vec<u8>, blocks: &[Block]) -> Result<(), NoMemory>
-    ensures { OnOk result (text.new.items ≡ text.old.items ++ flat_map (λ block. written (block_pieces block)) blocks.now) }
+    ensures { OnOk result (text.new.items ≡ text.old.items
+        ++ flat_map (λ block. written (block_pieces block)) blocks.now) }
 {
     for block in blocks {
         push_block(text, block)?;

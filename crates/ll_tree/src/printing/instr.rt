@@ -81,7 +81,8 @@ fn push_op(text: &mut Vec<u8>, op: &Op) -> Result<(), NoMemory>
 }
 
 fn push_abs(text: &mut Vec<u8>, width: u32, arg: &Operand, strict: bool) -> Result<(), NoMemory>
-    ensures { OnOk result (text.new.items ≡ text.old.items ++ written (abs_pieces width arg.now strict)) }
+    ensures { OnOk result (text.new.items ≡ text.old.items
+        ++ written (abs_pieces width arg.now strict)) }
 {
     push_called(text, b"abs", width)?;
     push_typed(text, width, arg)?;
@@ -141,7 +142,8 @@ fn push_bin(
 // The beginning of a call, up to its parenthesis.
 fn push_called(text: &mut Vec<u8>, word: &[u8], width: u32) -> Result<(), NoMemory>
     ensures { OnOk result (text.new.items ≡ text.old.items
-        ++ written (Word (codes "call") ∷ Blank ∷ Bits width ∷ Blank ∷ Intrinsic word.now width ∷ Mark 40 ∷ [])) }
+        ++ written (Word (codes "call") ∷ Blank ∷ Bits width ∷ Blank
+        ∷ Intrinsic word.now width ∷ Mark 40 ∷ [])) }
 {
     push(text, b"call ")?;
     push_type(text, width)?;
@@ -162,7 +164,8 @@ pub fn push_typed(text: &mut Vec<u8>, width: u32, operand: &Operand) -> Result<(
 }
 
 fn push_next_typed(text: &mut Vec<u8>, width: u32, operand: &Operand) -> Result<(), NoMemory>
-    ensures { OnOk result (text.new.items ≡ text.old.items ++ written (Mark 44 ∷ Blank ∷ typed width operand.now)) }
+    ensures { OnOk result (text.new.items ≡ text.old.items
+        ++ written (Mark 44 ∷ Blank ∷ typed width operand.now)) }
 {
     push(text, b", ")?;
     push_typed(text, width, operand)
@@ -184,7 +187,8 @@ fn push_pair(
     left: &Operand,
     right: &Operand,
 ) -> Result<(), NoMemory>
-    ensures { OnOk result (text.new.items ≡ text.old.items ++ written (pair width left.now right.now)) }
+    ensures { OnOk result (text.new.items ≡ text.old.items
+        ++ written (pair width left.now right.now)) }
 {
     push_typed(text, width, left)?;
     push(text, b", ")?;

@@ -46,7 +46,8 @@ pub fn push_literal(text: &mut Vec<u8>, width: u32, number: u32) -> Result<(), N
 }
 
 pub fn push_operand(text: &mut Vec<u8>, width: u32, operand: &Operand) -> Result<(), NoMemory>
-    ensures { OnOk result (text.new.items ≡ text.old.items ++ piece_text (operand_piece width operand.now)) }
+    ensures { OnOk result (text.new.items ≡ text.old.items
+        ++ piece_text (operand_piece width operand.now)) }
 {
     match operand {
         Operand::Name(name) => push_local(text, name),
