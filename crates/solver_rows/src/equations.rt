@@ -107,10 +107,7 @@ fn numerator(
 fn are_below(entries: &[Entry], columns: usize) -> bool
     ensures { IsTrue result → All (λ entry. entry.column < columns) entries.now }
 {
-    for entry in entries {
-        if entry.column as usize >= columns {
-            return false;
-        }
-    }
-    true
+    entries
+        .iter()
+        .all(|entry| (entry.column as usize) < columns)
 }
