@@ -4,6 +4,7 @@
 
 mod answers;
 mod commands;
+mod jobs;
 mod trials;
 
 use std::alloc::Global;
@@ -17,6 +18,8 @@ fn answer(alloc: Global, of: &str, call: &str) -> Result<String, NoMemory> {
         "command" => commands::command(alloc, call),
         "words" => commands::words(alloc, call),
         "without-words" => commands::without_words(alloc, call),
+        "job" => jobs::job(alloc, call),
+        "arguments" => jobs::arguments(alloc, call),
         "trial" => trials::trial(alloc, call),
         _ => Ok(String::from_str(alloc, "no row")?),
     }
