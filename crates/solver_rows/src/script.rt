@@ -1,0 +1,90 @@
+use crate::literals::{lits_of, push};
+use crate::systems::{exists, no_call};
+use bounded_simplex::{Check, Mark, Simplex};
+use mix_system::{Farkas, Lit, System, Tally};
+use std::alloc::Global;
+use wx_base::NoMemory;
+
+// `check BUDGET ROOM WORD ..` over a simplex of the system, which lasts for the row. A literal is put to
+// the bounds, `?` is a check, `back` gives all bounds back, and `all` shows each column: its bounds, and its
+// value where there is a point.
+pub fn answer(alloc: Global, system: &System, call: &str) -> Result<String, NoMemory> {
+    let (budget, rest) = call.split_once(' ').unwrap_or((call, ""));
+    let (room, words) = rest.split_once(' ').unwrap_or((rest, ""));
+    let (Ok(budget), Ok(room)) = (budget.parse::<u64>(), room.parse::<u32>()) else {
+        return no_call(alloc);
+    };
+    let mut simplex = Simplex::new(alloc, system, room)?;
+    let mut tally = Tally::new(budget);
+    let mut told = String::new(alloc);
+    for word in words.split_whitespace() {
+        let text = step(alloc, &mut simplex, &mut tally, word)?;
+        told.push_str(text.as_str())?;
+    }
+    Ok(told)
+}
+
+fn step(
+    alloc: Global,
+    simplex: &mut Simplex<'_>,
+    tally: &mut Tally,
+    word: &str,
+) -> Result<String, NoMemory> {
+    match word {
+        "?" => checked(alloc, &simplex.check(alloc, tally)?),
+        "all" => columns(alloc, simplex),
+        "back" => {
+            simplex.back_to(Mark { changes: 0 });
+            Ok(String::from_str(alloc, "back; ")?)
+        }
+        _ => {
+            put_all(simplex, lits_of(alloc, word)?.items());
+            Ok(String::new(alloc))
+        }
+    }
+}
+
+fn checked(alloc: Global, check: &Check) -> Result<String, NoMemory> {
+    Ok(match check {
+        Check::Point => String::from_str(alloc, "point; ")?,
+        Check::Refuted(farkas) => refuted(alloc, farkas)?,
+        Check::Paused => String::from_str(alloc, "paused; ")?,
+        Check::Spent => String::from_str(alloc, "spent; ")?,
+        Check::Excess(fault) => format!(in alloc; "{:?}, {}; ", fault.place, fault.excess)?,
+    })
+}
+
+// Each bound with its multiplier.
+fn refuted(alloc: Global, farkas: &Farkas) -> Result<String, NoMemory> {
+    let mut line = String::from_str(alloc, "refuted by")?;
+    for part in farkas.parts.items() {
+        line.push_str(format!(in alloc; " {}", part.by)?.as_str())?;
+        push(alloc, &mut line, &part.lit)?;
+    }
+    line.push_str("; ")?;
+    Ok(line)
+}
+
+fn put_all(simplex: &mut Simplex<'_>, lits: &[Lit]) {
+    for lit in lits {
+        let (vars, rows) = (simplex.system().vars(), simplex.system().rows());
+        if simplex.spare() > 0 && exists(vars, rows, lit.term) {
+            simplex.assert_bound(lit);
+        }
+    }
+}
+
+fn columns(alloc: Global, simplex: &Simplex<'_>) -> Result<String, NoMemory> {
+    let mut line = format!(in alloc; "{} pivots", simplex.made)?;
+    for column in 0..simplex.bounds.columns() {
+        let term = simplex.bounds.term_at(column);
+        let (low, high) = (simplex.low(term), simplex.high(term));
+        line.push_str(format!(in alloc; ", {low:?} {high:?}")?.as_str())?;
+        if simplex.has_point {
+            let value = simplex.value(term);
+            line.push_str(format!(in alloc; " at {value:?}")?.as_str())?;
+        }
+    }
+    line.push_str("; ")?;
+    Ok(line)
+}
