@@ -1,3 +1,4 @@
+pub mod Answer
 pub mod Rules
 pub mod Sound
 pub mod Tables

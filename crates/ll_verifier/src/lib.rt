@@ -4,6 +4,7 @@
 
 mod fault;
 mod items;
+mod laws;
 mod paths;
 mod sound;
 mod spot;
@@ -11,6 +12,7 @@ mod tables;
 
 pub use fault::{Rejected, Spot, VerifyFault};
 pub use items::check;
+pub use laws::one_answer;
 pub use paths::Checked;
 pub use sound::{Sound, verify};
 
