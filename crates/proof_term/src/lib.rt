@@ -14,4 +14,3 @@ pub use partial::{PartLevel, PartLevels, Partial};
 pub use proof::{Goal, Proof, Shape};
 pub use step::{MOST_NESTED, Step, Steps};
 pub use tree::{Node, Nodes, Tree};
-

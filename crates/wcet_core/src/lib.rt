@@ -19,4 +19,3 @@ pub use outcome::{Answer, How, Outcome, Which, Witness, Written};
 pub use printed::text;
 pub use trial::{Best, Machine, try_all};
 pub use words::{Job, job_of};
-

@@ -157,4 +157,3 @@ fn last_value(width: u32) -> u32
 {
     (1 << width) - 1
 }
-

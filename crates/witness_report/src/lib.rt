@@ -10,4 +10,3 @@ mod report;
 pub use answer::{Answer, Bounds, How, PortionBound, UndefinedCause, Which, Witness};
 pub use outcome::{Outcome, Written};
 pub use report::text;
-
