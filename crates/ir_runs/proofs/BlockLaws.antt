@@ -27,6 +27,7 @@ use Rattle.ir_runs.specs.Walk.{result_of, item_value, IsGiven, IsValued, names_o
 use Rattle.ll_flow.proofs.PlaceLaws.{no_item, cons_cases}
 use Rattle.ir_runs.proofs.MemberLaws.{in_here, in_map, map_in}
 use Rattle.ir_runs.proofs.NamesLaws.{item_names, names_in, is_new}
+use Rattle.ir_runs.proofs.TrailLaws.{path_more}
 use Rattle.ir_runs.proofs.ValueLaws.{IsThere, AllThere, Grows, op_has, item_grows}
 use Rattle.ir_runs.proofs.StepLaws.{IsReady}
 use Rattle.ir_runs.proofs.UsedLaws.{block_label, AreWithin, item_known, entry_known}
@@ -169,6 +170,23 @@ abbrev pub Arrives : Func → List Block → Option (List ℕ) → List ℕ → 
 Arrives func done None next = (done ≡ []) × (next ≡ label_of func 0)
 Arrives func done (Some last) next = IsPathTo func (map block_label done) last × GoesTo func last next
 
+-- and so a path does
+pub path_to : (func : Func) (done : List Block) (before : Option (List ℕ)) (next : List ℕ) → Arrives func done before next → IsPathTo func (map block_label done ++ next ∷ []) next
+path_to func done None next (none, is) = subst (λ (blocks : List Block). IsPathTo func (map block_label blocks ++ next ∷ []) next) (sym none) (is, refl)
+path_to func done (Some last) next (path, goes) = path_more func (map block_label done) last next path goes
+
+-- ---- what stands among the items of a block
+
+pub instr_among : (block : Block) (instr : Instr) → Contains block.body instr → Contains (items_of block) (OfInstr instr)
+instr_among block instr among =
+    Contains-append_right (map OfPhi block.phis) (map OfInstr block.body ++ OfEnd block.end ∷ []) (OfInstr instr)
+    (Contains-append_left (map OfInstr block.body) (OfEnd block.end ∷ []) (OfInstr instr) (in_map OfInstr block.body instr among))
+
+pub end_among : (block : Block) → Contains (items_of block) (OfEnd block.end)
+end_among block =
+    Contains-append_right (map OfPhi block.phis) (map OfInstr block.body ++ OfEnd block.end ∷ []) (OfEnd block.end)
+    (Contains-append_right (map OfInstr block.body) (OfEnd block.end ∷ []) (OfEnd block.end) (in_here (OfEnd block.end) []))
+
 -- the values of the items at the front of a block, over those at its start
 pub record AtItem (func : Func) (done : List Block) (before : Option (List ℕ)) (Other : Vals → Type 0) (vals : Vals) (front : List Item) (now : Vals) : Type 0 where
   pub knows : Knows now (names_on func done ++ names_in front)
@@ -294,20 +312,10 @@ module _ (func : Func) (rules : Rules func) (done : List Block) (within : AreWit
   -- with the values of all items the block is ready
   pub block_ready : (now : Vals) → Knows now (names_on func done ++ names_in (items_of block)) → IsReady now block
   block_ready now knows = record {
-    body = λ instr among value width used. used_there (OfInstr instr) (instr_among instr among) (op_parts instr.op) (λ site. refl) value width used;
-    ends = λ value width used. used_there (OfEnd block.end) end_among (end_parts block.end) (λ site. refl) value width used;
+    body = λ instr among value width used. used_there (OfInstr instr) (instr_among block instr among) (op_parts instr.op) (λ site. refl) value width used;
+    ends = λ value width used. used_there (OfEnd block.end) (end_among block) (end_parts block.end) (λ site. refl) value width used;
   }
     where
-      instr_among : (instr : Instr) → Contains block.body instr → Contains (items_of block) (OfInstr instr)
-      instr_among instr among =
-          Contains-append_right (map OfPhi block.phis) (map OfInstr block.body ++ OfEnd block.end ∷ []) (OfInstr instr)
-          (Contains-append_left (map OfInstr block.body) (OfEnd block.end ∷ []) (OfInstr instr) (in_map OfInstr block.body instr among))
-
-      end_among : Contains (items_of block) (OfEnd block.end)
-      end_among =
-          Contains-append_right (map OfPhi block.phis) (map OfInstr block.body ++ OfEnd block.end ∷ []) (OfEnd block.end)
-          (Contains-append_right (map OfInstr block.body) (OfEnd block.end ∷ []) (OfEnd block.end) (in_here (OfEnd block.end) []))
-
       used_there : (item : Item) → Contains (items_of block) item → (parts : List Part) → ((site : Site) → item_uses func site item ≡ flat_map (part_uses site (label_of func site.block) (At site.item)) parts) → AllThere now parts
       used_there item among parts is value width used =
           let at = split_at (items_of block) item among in

@@ -22,12 +22,11 @@ use Rattle.ir_runs.specs.Walk.{Goes, step_of, LeadOn, block_names, names_on, Wal
 use Rattle.ir_runs.specs.Operands.{AreThere, HasOperands, HaveOperands}
 use Rattle.ir_runs.proofs.MemberLaws.{in_here, in_there, in_map}
 use Rattle.ir_runs.proofs.NamesLaws.{names_in, param_names, block_names_are}
-use Rattle.ir_runs.proofs.TrailLaws.{path_more}
 use Rattle.ir_runs.proofs.StepLaws.{step_target}
 use Rattle.ir_runs.proofs.UsedLaws.{block_label, AreWithin, item_known, entry_known}
 use Rattle.ir_runs.proofs.EntryLaws.{entry_for, not_entry}
-use Rattle.ir_runs.proofs.BlockLaws.{split_at, Knows, leaving, Arrives}
-use Rattle.ir_runs.proofs.WalkLaws.{lead_at, leaving_push, visited}
+use Rattle.ir_runs.proofs.BlockLaws.{split_at, Knows, leaving, Arrives, path_to, instr_among, end_among}
+use Rattle.ir_runs.proofs.WalkLaws.{lead_at, leaving_push, first_label, visited}
 
 all_of : {X : Type 0} (P : X → Type 0) (xs : List X) → ((x : X) → Contains xs x → P x) → AllByRecursion P xs
 all_of P [] each = tt
@@ -42,12 +41,8 @@ module _ (func : Func) (rules : Rules func) (vals : Vals) (blocks : List Block) 
     pub before_within : AreWithin func rules done
     before_within other among = within other (subst (λ (l : List Block). Contains l other) (sym are) (Contains-append_left done (block ∷ after) other among))
 
-    path_by : (before : Option (List ℕ)) → Arrives func done before block.label → IsPathTo func (map block_label done ++ block.label ∷ []) block.label
-    path_by None (none, is) = subst (λ (l : List Block). IsPathTo func (map block_label l ++ block.label ∷ []) block.label) (sym none) (is, refl)
-    path_by (Some last) (path, goes) = path_more func (map block_label done) last block.label path goes
-
     pub path : IsPathTo func (map block_label done ++ block.label ∷ []) block.label
-    path = path_by (leaving None done) arrives
+    path = path_to func done (leaving None done) block.label arrives
 
     all_names : names_on func blocks ≡ names_on func done ++ (block_names block ++ flat_map block_names after)
     all_names =
@@ -86,16 +81,6 @@ module _ (func : Func) (rules : Rules func) (vals : Vals) (blocks : List Block) 
     phi_among : (phi : Phi) → Contains block.phis phi → Contains (items_of block) (OfPhi phi)
     phi_among phi among = Contains-append_left (map OfPhi block.phis) (map OfInstr block.body ++ OfEnd block.end ∷ []) (OfPhi phi) (in_map OfPhi block.phis phi among)
 
-    instr_among : (instr : Instr) → Contains block.body instr → Contains (items_of block) (OfInstr instr)
-    instr_among instr among =
-        Contains-append_right (map OfPhi block.phis) (map OfInstr block.body ++ OfEnd block.end ∷ []) (OfInstr instr)
-        (Contains-append_left (map OfInstr block.body) (OfEnd block.end ∷ []) (OfInstr instr) (in_map OfInstr block.body instr among))
-
-    end_among : Contains (items_of block) (OfEnd block.end)
-    end_among =
-        Contains-append_right (map OfPhi block.phis) (map OfInstr block.body ++ OfEnd block.end ∷ []) (OfEnd block.end)
-        (Contains-append_right (map OfInstr block.body) (OfEnd block.end ∷ []) (OfEnd block.end) (in_here (OfEnd block.end) []))
-
     phi_by : (before : Option (List ℕ)) → Arrives func done before block.label → (phi : Phi) → Contains block.phis phi → (front : List Item) (rest : List Item) → items_of block ≡ front ++ OfPhi phi ∷ rest → IsSome (phi_value vals before phi)
     phi_by None (none, is) phi among front rest items = absurd (not_entry func rules block there front rest phi items among is)
     phi_by (Some last) (is_path, goes) phi among front rest items =
@@ -109,8 +94,8 @@ module _ (func : Func) (rules : Rules func) (vals : Vals) (blocks : List Block) 
       phis = all_of (λ (phi : Phi). IsSome (phi_value vals (leaving None done) phi)) block.phis (λ phi among.
           let at = split_at (items_of block) (OfPhi phi) (phi_among phi among) in
           phi_by (leaving None done) arrives phi among at.0 at.1 at.2);
-      body = all_of (λ (instr : Instr). AreThere vals (op_parts instr.op)) block.body (λ instr among. used_there (OfInstr instr) (instr_among instr among) (op_parts instr.op) (λ site. refl));
-      ends = used_there (OfEnd block.end) end_among (end_parts block.end) (λ site. refl);
+      body = all_of (λ (instr : Instr). AreThere vals (op_parts instr.op)) block.body (λ instr among. used_there (OfInstr instr) (instr_among block instr among) (op_parts instr.op) (λ site. refl));
+      ends = used_there (OfEnd block.end) (end_among block) (end_parts block.end) (λ site. refl);
     }
 
   module _ (args : List ℕ) (leads : LeadOn func args vals blocks) where
@@ -129,10 +114,6 @@ module _ (func : Func) (rules : Rules func) (vals : Vals) (blocks : List Block) 
         let arrived = arrives_next done block next after are arrives in
         let rest = blocks_have (done ++ block ∷ []) next after (are ∙ sym (append_assoc done (block ∷ []) (next ∷ after))) arrived in
         (here, subst (λ (before : Option (List ℕ)). HaveOperands vals before (next ∷ after)) (leaving_push None done block) rest)
-
-abbrev first_label : List (List ℕ) → List ℕ
-first_label [] = []
-first_label (label ∷ labels) = label
 
 pub first_arrives : (func : Func) (args : List ℕ) (path : List (List ℕ)) (vals : Vals) → Rules func → (walk : Walk func args path vals) → (block : Block) (after : List Block) → walk.blocks ≡ block ∷ after → Arrives func [] None block.label
 first_arrives func args path vals rules walk block after are = (refl, ap first_label (ap (map block_label) (sym are) ∙ labels))

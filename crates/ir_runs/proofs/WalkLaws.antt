@@ -25,12 +25,12 @@ use Rattle.ir_runs.specs.Values.{Vals, ranged}
 use Rattle.ir_runs.specs.Walk.{Step, Goes, Returns, Fails, step_of, LeadOn, EndsWith, IsValued, AreValued, block_names, names_on, widths_of, block_of, Walk}
 use Rattle.ir_runs.proofs.MemberLaws.{in_here, in_there, in_map}
 use Rattle.ir_runs.proofs.NamesLaws.{param_names, names_in, block_names_are, same_block}
-use Rattle.ir_runs.proofs.TrailLaws.{path_more, no_return}
+use Rattle.ir_runs.proofs.TrailLaws.{no_return}
 use Rattle.ir_runs.proofs.ValueLaws.{Grows}
 use Rattle.ir_runs.proofs.StepLaws.{IsReady, step_has, step_same, ready_grows, step_target, goes_same}
 use Rattle.ir_runs.proofs.UsedLaws.{block_label, AreWithin}
 use Rattle.ir_runs.proofs.EntryLaws.{block_is, block_in, target_there}
-use Rattle.ir_runs.proofs.BlockLaws.{all_weaker, IsFirm, firm_valued, firm_grows, Knows, unknown, leaving, Arrives, AtItem, block_values_made, block_ready}
+use Rattle.ir_runs.proofs.BlockLaws.{all_weaker, IsFirm, firm_valued, firm_grows, Knows, unknown, leaving, Arrives, path_to, AtItem, block_values_made, block_ready}
 
 -- ---- where the blocks of a path lead
 
@@ -249,6 +249,10 @@ record Shares (done : List Block) (vals : Vals) (next : List ℕ) (other : Vals)
   pub blocks_are : blocks ≡ done ++ block ∷ after
   pub label : block.label ≡ next
 
+abbrev pub first_label : List (List ℕ) → List ℕ
+first_label [] = []
+first_label (label ∷ labels) = label
+
 abbrev first_found : List (Option Block) → Option Block
 first_found [] = None
 first_found (found ∷ rest) = found
@@ -297,12 +301,8 @@ module _ (func : Func) (rules : Rules func) (args : List ℕ) (fits : AreArgumen
   Other other = (path : List (List ℕ)) × (last : Step) × Ended func args path other last
 
   module _ (done : List Block) (vals : Vals) (block : Block) (there : Contains func.blocks block) (going : Ongoing done vals block.label) where
-    path_here : (before : Option (List ℕ)) → Arrives func done before block.label → IsPathTo func (map block_label done ++ block.label ∷ []) block.label
-    path_here None (none, is) = subst (λ (blocks : List Block). IsPathTo func (map block_label blocks ++ block.label ∷ []) block.label) (sym none) (is, refl)
-    path_here (Some last) (path, goes) = path_more func (map block_label done) last block.label path goes
-
     path : IsPathTo func (map block_label done ++ block.label ∷ []) block.label
-    path = path_here (leaving None done) going.arrives
+    path = path_to func done (leaving None done) block.label going.arrives
 
     new_by : (before : Option (List ℕ)) → Arrives func done before block.label → Contains (map block_label done) block.label → ⊥
     new_by None (none, is) among = no_item block.label (subst (λ (blocks : List Block). Contains (map block_label blocks) block.label) none among)
@@ -507,10 +507,6 @@ module _ (func : Func) (rules : Rules func) (args : List ℕ) (fits : AreArgumen
   entry_block : (blocks : List Block) → 1 ≤ length blocks → (block : Block) × Contains blocks block × (get_or (map block_label blocks) 0 [] ≡ block.label)
   entry_block [] some = absurd (omega (arith, some))
   entry_block (block ∷ blocks) some = (block, in_here block blocks, refl)
-
-  abbrev first_label : List (List ℕ) → List ℕ
-  first_label [] = []
-  first_label (label ∷ labels) = label
 
   first_shared : (entry : List ℕ) (other : Vals) (blocks : List Block) (rest : List (List ℕ)) → Grows (start func.params args) other → map block_label blocks ≡ entry ∷ rest → Shares [] (start func.params args) entry other blocks
   first_shared entry other [] rest grows same = absurd (omega (arith, ap length same))
