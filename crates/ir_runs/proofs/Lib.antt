@@ -1,0 +1,15 @@
+mod AnswerLaws
+mod BlockLaws
+mod EntryLaws
+mod FitLaws
+mod MemberLaws
+mod NamesLaws
+mod OnceLaws
+mod OperandLaws
+mod SiteLaws
+mod StepLaws
+mod TrailLaws
+mod UsedLaws
+mod ValueLaws
+mod WalkLaws
+mod WidthLaws
