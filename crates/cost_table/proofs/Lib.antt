@@ -1,5 +1,6 @@
 pub mod DifferentLaws
 pub mod DigitLaws
+mod HalvingLaws
 pub mod KeptLaws
 pub mod LineLaws
 pub mod NameLaws

@@ -94,7 +94,8 @@ impl Costs {
 
 // The version that a heading names.
 fn version_of(line: &[u8]) -> Option<u32>
-    ensures { MatchOption result ((version : ℕ) → ¬ IsHeading version line.now) (λ version. IsHeading version line.now) }
+    ensures { MatchOption result ((version : ℕ) → ¬ IsHeading version line.now)
+        (λ version. IsHeading version line.now) }
 {
     if line == b"wcet costs 1".as_slice() {
         Some(1)
@@ -127,13 +128,16 @@ fn take_lines(
 ) -> Result<(), CostFault>
     requires few { length lines < 2 ^ 31 }
     requires different { AllPairs (λ label other. label ≢ other) labels.now }
-    requires within { All (λ edge. (edge.from < length labels.now) × (edge.to < length labels.now)) edges.now }
+    requires within { All (λ edge. (edge.from < length labels.now) × (edge.to < length labels.now))
+        edges.now }
+    requires sorted { AreSorted edges.now }
     requires blocks { length ledger.old.blocks.items ≡ length labels.now }
     requires edges { length ledger.old.edges.items ≡ length edges.now }
     requires none { Keeps [] ledger.old.blocks.items ledger.old.edges.items }
     ensures blocks { IfOk result (λ _. length ledger.new.blocks.items ≡ length labels.now) }
     ensures edges { IfOk result (λ _. length ledger.new.edges.items ≡ length edges.now) }
-    ensures entries { IfOk result (λ _. (entries : List Given) × Goes version labels.now edges.now [] lines.entry entries
+    ensures entries { IfOk result (λ _. (entries : List Given)
+        × Goes version labels.now edges.now [] lines.entry entries
         × Keeps entries ledger.new.blocks.items ledger.new.edges.items) }
     ensures fault { IfErr result (IsLineFault version labels.now edges.now lines.entry) }
 {
@@ -162,7 +166,8 @@ pub fn read_costs(
 ) -> Result<Costs, CostFault>
     requires few { length text.now < 2 ^ 31 }
     requires different { AllPairs (λ label other. label ≢ other) labels.now }
-    requires within { All (λ edge. (edge.from < length labels.now) × (edge.to < length labels.now)) edges.now }
+    requires within { All (λ edge. (edge.from < length labels.now) × (edge.to < length labels.now))
+        edges.now }
     requires sorted { AreSorted edges.now }
 
     // What is answered is so.
@@ -172,15 +177,18 @@ pub fn read_costs(
     // What is so is answered.
     ensures only { (costs : CostLists) → Table text.now labels.now edges.now costs
         → MatchResult result (λ read. read ≡ costs) (λ found. found ≡ faults.NoMemory) }
-    ensures only_fault { (cause : Fault) → cause ≢ faults.NoMemory → IsCause text.now labels.now edges.now cause
+    ensures only_fault { (cause : Fault) → cause ≢ faults.NoMemory
+        → IsCause text.now labels.now edges.now cause
         → MatchResult result (λ read. ⊥) (λ found. (found ≡ cause) ⊎ (found ≡ faults.NoMemory)) }
 
     // There is one answer at most.
     ensures one { (costs others : CostLists) → Table text.now labels.now edges.now costs
         → Table text.now labels.now edges.now others → costs ≡ others }
     ensures one_fault { (cause other : Fault) → cause ≢ faults.NoMemory → other ≢ faults.NoMemory
-        → IsCause text.now labels.now edges.now cause → IsCause text.now labels.now edges.now other → cause ≡ other }
-    ensures not_both { (costs : CostLists) (cause : Fault) → Table text.now labels.now edges.now costs
+        → IsCause text.now labels.now edges.now cause → IsCause text.now labels.now edges.now other
+        → cause ≡ other }
+    ensures not_both { (costs : CostLists) (cause : Fault)
+        → Table text.now labels.now edges.now costs
         → IsCause text.now labels.now edges.now cause → cause ≡ faults.NoMemory }
 {
     read_table(alloc, text, labels, edges)
@@ -194,7 +202,9 @@ fn read_table(
 ) -> Result<Costs, CostFault>
     requires few { length text.now < 2 ^ 31 }
     requires different { AllPairs (λ label other. label ≢ other) labels.now }
-    requires within { All (λ edge. (edge.from < length labels.now) × (edge.to < length labels.now)) edges.now }
+    requires within { All (λ edge. (edge.from < length labels.now) × (edge.to < length labels.now))
+        edges.now }
+    requires sorted { AreSorted edges.now }
     ensures table { IfOk result (Table text.now labels.now edges.now) }
     ensures fault { IfErr result (IsCause text.now labels.now edges.now) }
 {

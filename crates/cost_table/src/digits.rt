@@ -39,7 +39,8 @@ fn value_of(digits: &[u8], limit: u64) -> Option<u64>
     requires limit { limit ≤ 2 ^ 32 }
     requires some { 0 < length digits.now }
     ensures below { IfSome result (λ n. n < limit) }
-    ensures value { result ≡ (if nat_lt (digits_value 10 digits.now) limit then Some (digits_value 10 digits.now) else None) }
+    ensures value { let value = digits_value 10 digits.now in
+        result ≡ (if nat_lt value limit then Some value else None) }
 {
     let mut value = 0;
     for digit in digits {

@@ -1,4 +1,5 @@
 ghost use Rattle.std.specs.Prelude.{◌≡◌, ◌≢◌, ◌<◌, [], ℕ, List, None, Some, length, map, slice_index_or, slice_set, All, AllPairs, IfOk, MatchBool, MatchOption};
+ghost use Rattle.flow_graph.specs.Sorted.{AreSorted};
 ghost use Rattle.cost_table.specs.declared.entry.Entry.{Entry as Given};
 ghost use Rattle.cost_table.specs.Entries.{Gives, Repeats, IsFlaw, Keeps, HasPlace, Adds, cost_or_zero};
 
@@ -19,8 +20,10 @@ pub struct Ledger {
 fn put(costs: &mut Vec<Option<u32>>, at: usize, cost: u32) -> bool
     requires { at < length costs.old.items }
     ensures { MatchBool result
-        ((slice_index_or costs.old.items at None ≡ None) × (costs.new.items ≡ slice_set costs.old.items at (Some cost)))
-        (((other : ℕ) × (slice_index_or costs.old.items at None ≡ Some other)) × (costs.new.items ≡ costs.old.items)) }
+        ((slice_index_or costs.old.items at None ≡ None)
+        × (costs.new.items ≡ slice_set costs.old.items at (Some cost)))
+        (((other : ℕ) × (slice_index_or costs.old.items at None ≡ Some other))
+        × (costs.new.items ≡ costs.old.items)) }
 {
     let Some(_known) = costs[at] else {
         costs[at] = Some(cost);
@@ -47,8 +50,10 @@ impl Ledger {
         requires { HasPlace (length self.old.blocks.items) (length self.old.edges.items) entry }
         ensures blocks { length self.new.blocks.items ≡ length self.old.blocks.items }
         ensures edges { length self.new.edges.items ≡ length self.old.edges.items }
-        ensures added { (entries : List Given) → Keeps entries self.old.blocks.items self.old.edges.items
-            → MatchBool result (Adds entries entry self.new.blocks.items self.new.edges.items) (Repeats entries entry) }
+        ensures added { (entries : List Given)
+            → Keeps entries self.old.blocks.items self.old.edges.items
+            → MatchBool result (Adds entries entry self.new.blocks.items self.new.edges.items)
+            (Repeats entries entry) }
     {
         match entry {
             Entry::Nothing => true,
@@ -67,14 +72,18 @@ impl Ledger {
         line: &[u8],
     ) -> Result<Option<Flaw>, NoMemory>
         requires different { AllPairs (λ label other. label ≢ other) labels.now }
-        requires within { All (λ edge. (edge.from < length labels.now) × (edge.to < length labels.now)) graph.now }
+        requires within { All (λ edge. (edge.from < length labels.now)
+            × (edge.to < length labels.now)) graph.now }
+        requires sorted { AreSorted graph.now }
         requires blocks { length self.old.blocks.items ≡ length labels.now }
         requires edges { length self.old.edges.items ≡ length graph.now }
         ensures blocks { length self.new.blocks.items ≡ length labels.now }
         ensures edges { length self.new.edges.items ≡ length graph.now }
-        ensures added { (entries : List Given) → Keeps entries self.old.blocks.items self.old.edges.items
+        ensures added { (entries : List Given)
+            → Keeps entries self.old.blocks.items self.old.edges.items
             → IfOk result (λ flaw. MatchOption flaw
-            ((given : Given) × Gives version labels.now graph.now line.now given × Adds entries given self.new.blocks.items self.new.edges.items)
+            ((given : Given) × Gives version labels.now graph.now line.now given
+            × Adds entries given self.new.blocks.items self.new.edges.items)
             (IsFlaw version labels.now graph.now entries line.now)) }
     {
         let Some(said) = read_line(alloc, line)? else {
@@ -96,9 +105,11 @@ impl Ledger {
 /// The first place without a cost.
 pub fn first_missing(costs: &[Option<u32>]) -> Option<usize>
     ensures { MatchOption result
-        ((at : ℕ) → at < length costs.now → (cost : ℕ) × (slice_index_or costs.now at None ≡ Some cost))
+        ((at : ℕ) → at < length costs.now
+        → (cost : ℕ) × (slice_index_or costs.now at None ≡ Some cost))
         (λ at. (at < length costs.now) × (slice_index_or costs.now at None ≡ None)
-        × ((other : ℕ) → other < at → (cost : ℕ) × (slice_index_or costs.now other None ≡ Some cost))) }
+        × ((other : ℕ) → other < at
+        → (cost : ℕ) × (slice_index_or costs.now other None ≡ Some cost))) }
 {
     for (at, cost) in costs.iter().enumerate() {
         let Some(_known) = cost else {

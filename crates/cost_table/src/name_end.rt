@@ -42,7 +42,8 @@ fn name_len(line: &[u8]) -> usize
 /// given is free.
 pub fn split_name(line: &[u8]) -> Option<(&[u8], &[u8])>
     ensures parts { IfSome result (λ parts. line.now ≡ parts.0.now ++ 32 ∷ parts.1.now) }
-    ensures only { (written rest name : List ℕ) → line.now ≡ written ++ 32 ∷ rest → IsLocalName written name
+    ensures only { (written rest name : List ℕ) → line.now ≡ written ++ 32 ∷ rest
+        → IsLocalName written name
         → MatchOption result ⊥ (λ parts. (parts.0.now ≡ written) × (parts.1.now ≡ rest)) }
 {
     let end = name_len(line);

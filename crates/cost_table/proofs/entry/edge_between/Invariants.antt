@@ -1,6 +1,13 @@
-use Rattle.std.proofs.Common.{◌≡◌}
-use Rattle.std.specs.List.{AllWithin}
+use Rattle.std.proofs.Common.{◌≡◌, ◌≤◌, ◌-◌, length}
+use Rattle.cost_table.proofs.HalvingLaws.{AreBefore, AreBehind}
 use Rattle.cost_table.proofs.entry.edge_between.Given as goal
 
-abbrev pub invariant-loop-place : goal.invariant-loop-place
-invariant-loop-place l = AllWithin (λ edge. (edge.from ≡ l.from) × (edge.to ≡ l.to) → ⊥) l.edges 0 l.place
+abbrev pub invariant-loop-low : goal.invariant-loop-low
+invariant-loop-low l = record {
+  within : l.high ≤ length l.edges;
+  before : AreBefore l.edges l.from l.to l.low;
+  behind : AreBehind l.edges l.from l.to l.high;
+}
+
+abbrev pub decreases-loop-low : goal.decreases-loop-low
+decreases-loop-low l = l.high - l.low
