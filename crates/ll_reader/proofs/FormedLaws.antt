@@ -1,5 +1,5 @@
 -- What a file spells is formed.
-use Rattle.std.proofs.Common.{◌≡◌, ℕ, List, [], Result, Ok, Err, IfOk, refl, sym, subst, tt}
+use Rattle.std.proofs.Common.{◌≡◌, ℕ, List, [], Result, Ok, Err, IfOk, refl, sym, subst}
 use Rattle.ll_token.proofs.ScanLaws.{each_is}
 use Rattle.ll_tree.specs.declared.func.Func.{Func}
 use Rattle.ll_tree.specs.Formed.{IsFormed}
