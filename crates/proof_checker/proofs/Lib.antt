@@ -5,3 +5,4 @@ mod LineLaws
 mod OnceLaws
 mod OneVerdictLaws
 mod ProofLaws
+mod SpelledLaws

@@ -9,14 +9,25 @@ use Rattle.proof_term.specs.Laws.{Meets}
 use Rattle.proof_term.specs.Valid.{Valid}
 use Rattle.proof_checker.specs.declared.verdict.Verdict.{Verdict}
 use Rattle.proof_checker.specs.declared.verdict.Verdict.TheVariants.{Yes}
+use Rattle.proof_checker.specs.Spelled.{Spells, IsMadeFor}
 use Rattle.proof_checker.specs.Verdict.{IsVerdict}
 
--- there is a valid proof with that goal
-abbrev pub HasProof : System → Term → Goal → Type 0
-HasProof system cost goal = (proof : Proof) × Valid system cost proof × (proof.goal ≡ goal)
+-- The text spells a proof with that goal that is valid and was made for the system.
+pub record IsProofOf (system : System) (cost : Term) (text : List ℕ) (goal : Goal) (proof : Proof) : Type 0 where
+  pub valid : Valid system cost proof
+  pub made_for : IsMadeFor system proof.shape
+  pub spells : Spells text proof
+  pub goal_is : proof.goal ≡ goal
 
+-- a text is valid where it spells a valid proof
+abbrev pub ValidProofsPass : Type 0
+ValidProofsPass = (system : System) (cost : Term) (text : List ℕ) (goal : Goal) (proof : Proof) →
+    IsProofOf system cost text goal proof → IsVerdict system cost text (Yes goal)
+
+-- and only there
 abbrev pub ValidTextsHaveAProof : Type 0
-ValidTextsHaveAProof = (system : System) (cost : Term) (text : List ℕ) (goal : Goal) → IsVerdict system cost text (Yes goal) → HasProof system cost goal
+ValidTextsHaveAProof = (system : System) (cost : Term) (text : List ℕ) (goal : Goal) →
+    IsVerdict system cost text (Yes goal) → (proof : Proof) × IsProofOf system cost text goal proof
 
 -- every point that fits meets the goal of a valid text
 abbrev pub CheckedTextsBound : Type 0

@@ -3,4 +3,5 @@ pub mod Kept
 pub mod Laws
 pub mod Outcome
 pub mod Place
+pub mod Spelled
 pub mod Verdict

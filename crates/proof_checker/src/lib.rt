@@ -12,7 +12,9 @@ mod steps;
 mod verdict;
 
 pub use checker::{Checker, Fed, check};
-pub use laws::{checked_texts_bound, texts_have_one_verdict, valid_texts_have_a_proof};
+pub use laws::{
+    checked_texts_bound, texts_have_one_verdict, valid_proofs_pass, valid_texts_have_a_proof,
+};
 pub use verdict::{Reason, Verdict};
 
 #[cfg(test)]

@@ -1,3 +1,4 @@
 pub mod ListLaws
 pub mod RefutesLaws
 pub mod ValidLaws
+mod WeakerLaws

@@ -3,3 +3,4 @@ pub mod Levels
 pub mod Refutes
 pub mod Steps
 pub mod Valid
+pub mod Weaker

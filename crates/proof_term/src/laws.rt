@@ -1,4 +1,5 @@
 ghost use Rattle.proof_term.specs.Laws.{RefutedBoxesAreEmpty, ValidProofsBound, CutsAreBounds};
+ghost use Rattle.proof_term.specs.Weaker.{ValidProofsStayValid};
 
 /// No whole point lies in a box that a tree refutes.
 pub fn refuted_boxes_are_empty()
@@ -14,4 +15,9 @@ pub fn valid_proofs_bound()
 /// At every point that fits a system the term of each cut of a valid proof is at most the cut's bound, whatever the goals around it.
 pub fn cuts_are_bounds()
     ensures { CutsAreBounds }
+{}
+
+/// A proof that is valid for a goal is valid for each weaker one, where no clause of the system and of the proof has a literal on the cost.
+pub fn valid_proofs_stay_valid()
+    ensures { ValidProofsStayValid }
 {}

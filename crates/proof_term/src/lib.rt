@@ -8,7 +8,9 @@ mod proof;
 mod step;
 mod tree;
 
-pub use laws::{cuts_are_bounds, refuted_boxes_are_empty, valid_proofs_bound};
+pub use laws::{
+    cuts_are_bounds, refuted_boxes_are_empty, valid_proofs_bound, valid_proofs_stay_valid,
+};
 pub use open_tree::{OpenNode, OpenNodes, OpenTree};
 pub use partial::{PartLevel, PartLevels, Partial};
 pub use proof::{Goal, Proof, Shape};
