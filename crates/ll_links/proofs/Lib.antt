@@ -1,1 +1,4 @@
+mod BesideLaws
+pub mod ItemLaws
+mod KindLaws
 mod LinkLaws

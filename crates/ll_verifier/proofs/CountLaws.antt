@@ -1,9 +1,9 @@
--- A function within the limits has few values and blocks.
+-- A function within the limits has few values, blocks and items.
 use Rattle.std.proofs.Common.{◌≡◌, ◌<◌, ◌≤◌, ◌+◌, ◌^◌, ℕ, List, [], ◌∷◌, length, map, Option, Some, None, ap, arith}
-use Rattle.std.specs.List.{flat_map}
+use Rattle.std.specs.List.{flat_map, sum_by}
 use Rattle.std.proofs.lemmas.List.{length-append, length-map}
 use Rattle.std.proofs.lemmas.List.Concat.{length-flat_map}
-use Rattle.std.proofs.lemmas.List.Sums.{sum_by-le-sum_by}
+use Rattle.std.proofs.lemmas.List.Sums.{sum_by-cons, sum_by-le-sum_by}
 use Rattle.ll_tree.specs.declared.func.Func.{Func}
 use Rattle.ll_tree.specs.declared.func.Param.{Param}
 use Rattle.ll_tree.specs.declared.block.Block.{Block}
@@ -11,6 +11,7 @@ use Rattle.ll_tree.specs.declared.block.Phi.{Phi}
 use Rattle.ll_tree.specs.declared.block.Instr.{Instr}
 use Rattle.ll_rules.specs.Items.{block_values, values_of, labels_of, named, result_width}
 use Rattle.ll_rules.specs.Limits.{KeepsLimits}
+use Rattle.ll_links.specs.Table.{count_items}
 
 at_most_one : (name : List ℕ) (width : Option ℕ) → length (named name width) ≤ 1
 at_most_one name None = omega arith
@@ -41,3 +42,13 @@ few_values func values is keeps =
 
 pub few_blocks : (func : Func) (labels : List (List ℕ)) → labels ≡ labels_of func → KeepsLimits func → length labels < 2 ^ 32
 few_blocks func labels is keeps = omega (arith, ap (length {A = List ℕ}) is, length-map func.blocks (λ (block : Block). block.label), keeps.blocks)
+
+items_are : (blocks : List Block) → count_items blocks ≡ sum_by (λ (block : Block). length block.phis + length block.body) blocks + length blocks
+items_are [] = omega arith
+items_are (block ∷ blocks) =
+    let rest = items_are blocks in
+    let more = sum_by-cons (λ (block : Block). length block.phis + length block.body) block blocks in
+    omega (arith, rest, more)
+
+pub few_items : (func : Func) → KeepsLimits func → count_items func.blocks < 2 ^ 32
+few_items func keeps = let all = items_are func.blocks in omega (arith, all, keeps.values, keeps.blocks)

@@ -1,8 +1,10 @@
 mod AnswerLaws
+mod ComingLaws
 mod CountLaws
 mod ExcessLaws
 mod FirstLaws
 mod NameLaws
+mod ParamLaws
 mod RuleLaws
 mod SiteLaws
 mod TwiceLaws

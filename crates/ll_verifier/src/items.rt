@@ -93,7 +93,7 @@ fn check_sites(
     if let Some(at) = first_spot(alloc, func, &tables.sites, &phis)? {
         return Ok(Err(VerifyFault::PhiEntries { at }));
     }
-    let links = resolve(alloc, &tables.sites, &tables.values, &tables.labels)?;
+    let links = resolve(alloc, func, &tables.sites, &tables.values, &tables.labels)?;
     check_paths(alloc, func, tables, links)
 }
 

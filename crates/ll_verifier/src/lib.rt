@@ -5,6 +5,7 @@
 mod fault;
 mod items;
 mod laws;
+mod order;
 mod paths;
 mod sound;
 mod spot;
@@ -12,7 +13,8 @@ mod tables;
 
 pub use fault::{Rejected, Spot, VerifyFault};
 pub use items::check;
-pub use laws::one_answer;
+pub use laws::{one_answer, parameters_first};
+pub use order::PositionEdge;
 pub use paths::Checked;
 pub use sound::{Sound, verify};
 

@@ -1,29 +1,31 @@
 ghost use Rattle.std.specs.Prelude.{◌≤◌, length, IfOk, MatchOption, MatchResult};
 ghost use Rattle.ll_rules.specs.Items.{labels_of, values_of};
-ghost use Rattle.ll_items.specs.Sites.{sites_of};
-ghost use Rattle.ll_links.specs.Links.{AreWhole};
+ghost use Rattle.ll_links.specs.Table.{AreWhole};
 ghost use Rattle.ll_flow.specs.Paths.{IsFlowOf};
 ghost use Rattle.ll_flow.specs.Uses.{AllDefined};
 ghost use Rattle.ll_verifier.specs.Rules as rules;
 ghost use Rattle.ll_verifier.specs.Sound.{IsChecked};
 ghost use Rattle.ll_verifier.specs.Tables.{AreTables};
 
-use crate::VerifyFault;
+use crate::order::{list_blocks, list_edges};
 use crate::spot::spot;
 use crate::tables::Tables;
-use flat_lists::FlatLists;
+use crate::{PositionEdge, VerifyFault};
 use flow_rules::Flow;
 use ll_flow::{first_undefined, first_unreached, flow_of};
-use ll_links::Link;
+use ll_links::{BlockId, LinkTable};
 use ll_tree::Func;
 use std::alloc::Global;
 use wx_base::NoMemory;
 
-/// What is kept of a function that keeps all rules: its flow, and the numbers of what each item names.
+/// What is kept of a function that keeps all rules: its flow, its blocks in the kept order and the edges between
+/// them, and the numbers of what each item names and gives.
 #[derive(Drop)]
 pub struct Checked {
     pub flow: Flow,
-    pub links: FlatLists<Link>,
+    pub order: Vec<BlockId>,
+    pub edges: Vec<PositionEdge>,
+    pub links: LinkTable,
 }
 
 // The rules that are asked of paths, behind those that are asked of items.
@@ -31,16 +33,16 @@ pub fn check_paths(
     alloc: Global,
     func: &Func,
     tables: &Tables,
-    links: FlatLists<Link>,
+    links: LinkTable,
 ) -> Result<Result<Checked, VerifyFault>, NoMemory>
     requires some_block { 1 ≤ length func.now.blocks }
     requires entries { rules.HasEntries func.now }
     requires tables { AreTables func.now tables.now }
-    requires whole { AreWhole (values_of func.now) (labels_of func.now) (sites_of func.now) links.0 }
+    requires whole { AreWhole (values_of func.now) (labels_of func.now) func.now.blocks links }
     ensures { IfOk result (λ answer. MatchResult answer (IsChecked func.now) (rules.Breaks func.now)) }
 {
     match flow_of(alloc, func, &tables.labels)? {
-        Ok(flow) => check_flow(alloc, func, tables, Checked { flow, links }),
+        Ok(flow) => check_flow(alloc, func, tables, flow, links),
         Err(cycle) => Ok(Err(VerifyFault::Loop { cycle })),
     }
 }
@@ -49,21 +51,29 @@ fn check_flow(
     alloc: Global,
     func: &Func,
     tables: &Tables,
-    checked: Checked,
+    flow: Flow,
+    links: LinkTable,
 ) -> Result<Result<Checked, VerifyFault>, NoMemory>
     requires acyclic { rules.IsAcyclic func.now }
     requires tables { AreTables func.now tables.now }
-    requires flow { IsFlowOf func.now checked.flow }
-    requires whole { AreWhole (values_of func.now) (labels_of func.now) (sites_of func.now) checked.links.0 }
+    requires flow { IsFlowOf func.now flow }
+    requires whole { AreWhole (values_of func.now) (labels_of func.now) func.now.blocks links }
     ensures { IfOk result (λ answer. MatchResult answer (IsChecked func.now) (rules.Breaks func.now)) }
 {
-    if let Some(block) = first_unreached(alloc, func, &checked.flow)? {
+    if let Some(block) = first_unreached(alloc, func, &flow)? {
         return Ok(Err(VerifyFault::Unreached { block }));
     }
-    if let Some(fault) = undefined_name(alloc, func, tables, &checked.flow)? {
+    if let Some(fault) = undefined_name(alloc, func, tables, &flow)? {
         return Ok(Err(fault));
     }
-    Ok(Ok(checked))
+    let order = list_blocks(alloc, flow.order())?;
+    let edges = list_edges(alloc, flow.edges())?;
+    Ok(Ok(Checked {
+        flow,
+        order,
+        edges,
+        links,
+    }))
 }
 
 fn undefined_name(
