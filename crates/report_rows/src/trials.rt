@@ -56,7 +56,7 @@ pub fn trial(alloc: Global, call: &str) -> Result<String, NoMemory> {
     if !are_narrow(&widths) {
         return Ok(String::from_str(alloc, "too wide")?);
     }
-    let mut listed = listed(alloc, &widths, runs)?;
+    let mut listed = machine_of(alloc, &widths, runs)?;
     let best = try_all(alloc, &mut listed, &widths)?;
     let calls = listed.calls;
     Ok(match best {
@@ -77,7 +77,7 @@ fn are_narrow(widths: &[u32]) -> bool
     }
 }
 
-fn listed(alloc: Global, widths: &[u32], runs: &str) -> Result<Listed, NoMemory>
+fn machine_of(alloc: Global, widths: &[u32], runs: &str) -> Result<Listed, NoMemory>
     ensures { IfOk result (λ listed. listed.widths.items ≡ widths.now) }
 {
     Ok(Listed {
