@@ -6,6 +6,3 @@ mod hints;
 
 pub use bounds::{Bounds, Change};
 pub use hints::{Clauses, Open, propagates};
-
-#[cfg(test)]
-mod tests;

@@ -8,6 +8,3 @@ mod sums;
 
 pub use combined::Combined;
 pub use sums::Sums;
-
-#[cfg(test)]
-mod tests;

@@ -1,4 +1,5 @@
 pub mod AddsLaws
 mod KeptLaws
 mod LevelLaws
+mod NumberLaws
 mod ShownLaws

@@ -1,5 +1,6 @@
 -- The levels that are kept, as the definitions of a proof have them.
-use Rattle.std.specs.Prelude.{pos, ◌+ℤ◌, List, length, map, All, FitsSigned}
+use Rattle.std.specs.Prelude.{◌≡◌, ℕ, ◌<◌, pos, ◌+ℤ◌, List, length, map, slice_index_or, All, FitsSigned}
+use Rattle.std.specs.List.{AllPairs}
 use Rattle.std.specs.Prelude.{reverse}
 use Rattle.std.specs.Int.{w128}
 use Rattle.mix_system.specs.declared.literal.Term.{Term}
@@ -32,14 +33,29 @@ GoalFits system Nothing = Unit {0}
 GoalFits system (AtMost most) = Unit {0}
 GoalFits system (Below term bound) = Exists (length system.ranges) (length system.rows) term × FitsSigned w128 (bound +ℤ pos 1)
 
--- a kept level: the system has all its terms
+-- each step has a greater number than those before it
+abbrev pub AreRising : List EndedStep → Type 0
+AreRising steps = AllPairs (λ step later. step.number < later.number) steps
+
+-- the step at that place has the number
+abbrev pub IsAt : List EndedStep → ℕ → ℕ → Type 0
+IsAt steps number at = (at < length steps) × ((d : EndedStep) → (slice_index_or steps at d).number ≡ number)
+
+-- all steps have numbers below the next
+abbrev pub AreBelow : ℕ → OpenLevel → Type 0
+AreBelow next level = All (λ step. step.number < next) level.ended.items
+
+-- a kept level: the system has all its terms, and the numbers of its steps rise
 pub record IsLevel (system : System) (level : OpenLevel) : Type 0 where
   pub named : All (λ step. All (NamesTerm system) step.clause) level.ended.items
+  pub rising : AreRising level.ended.items
   pub goal : GoalFits system level.goal
 
 -- all levels are kept, and the bounds stand for the box of the last
 pub record AreLevels (system : System) (cost : Term) (levels : OpenLevels) : Type 0 where
   pub last : IsLevel system levels.last
   pub enclosing : All (IsLevel system) levels.enclosing.items
+  pub below : AreBelow levels.next levels.last
+  pub below_around : All (AreBelow levels.next) levels.enclosing.items
   pub over : IsOver (length system.ranges) (length system.rows) levels.bounds
   pub stands : Stands levels.bounds (box_of system cost (levels_of levels.last levels.enclosing.items))

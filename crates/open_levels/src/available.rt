@@ -1,7 +1,7 @@
-ghost use Rattle.std.specs.Prelude.{◌≡◌, MatchOption, None, Some, map};
+ghost use Rattle.std.specs.Prelude.{◌≡◌, MatchOption, None, Some, map, All};
 ghost use Rattle.std.specs.List.{flat_map};
 ghost use Rattle.proof_term.specs.Levels.{clause_of, cuts_of};
-ghost use Rattle.open_levels.specs.Kept.{level_of};
+ghost use Rattle.open_levels.specs.Kept.{level_of, AreRising};
 
 use crate::OpenLevel;
 use box_check::Clauses;
@@ -18,9 +18,12 @@ pub struct Available<'a> {
 
 impl<'a> Clauses for Available<'a> {
     ghost use Rattle.proof_term.specs.Levels.{known as known_to};
-    ghost use Rattle.open_levels.specs.Kept.{levels_of};
+    ghost use Rattle.std.specs.Prelude.{All};
+    ghost use Rattle.open_levels.specs.Kept.{levels_of, AreRising};
 
     ghost known = { λ it number. known_to it.system.now (levels_of it.last.now it.enclosing.now) number };
+
+    ghost ordered = { λ it. AreRising it.last.now.ended.items × All (λ level. AreRising level.ended.items) it.enclosing.now };
 
     fn clause(&self, number: u32) -> Option<&[Lit]> {
         if number < self.system.clauses() {
@@ -35,6 +38,7 @@ impl<'a> Clauses for Available<'a> {
 
 // The clause of the cut with that number on some levels.
 fn cut_of(enclosing: &[OpenLevel], number: u64) -> Option<&[Lit]>
+    requires { All (λ level. AreRising level.ended.items) enclosing.now }
     ensures { MatchOption result (clause_of number (flat_map cuts_of (map level_of enclosing.now)) ≡ None) (λ clause. clause_of number (flat_map cuts_of (map level_of enclosing.now)) ≡ Some clause.now) }
 {
     for level in enclosing {

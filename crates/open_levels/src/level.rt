@@ -1,6 +1,6 @@
-ghost use Rattle.std.specs.Prelude.{◌≡◌, MatchOption, None, Some};
+ghost use Rattle.std.specs.Prelude.{◌≡◌, ◌≢◌, MatchOption, None, Some, All};
 ghost use Rattle.proof_term.specs.Levels.{clause_of, cuts_of};
-ghost use Rattle.open_levels.specs.Kept.{level_of};
+ghost use Rattle.open_levels.specs.Kept.{level_of, AreRising, IsAt};
 
 use mix_system::{Lit, Lits};
 use proof_term::Goal;
@@ -21,33 +21,51 @@ pub struct OpenLevel {
 }
 
 impl OpenLevel {
-    // The clause of the step with that number. The newest steps are looked at first.
-    pub(crate) fn clause(&self, number: u64) -> Option<&[Lit]>
-        ensures { MatchOption result (clause_of number (level_of self.now).finished ≡ None) (λ clause. clause_of number (level_of self.now).finished ≡ Some clause.now) }
+    // Where the step with that number stands, by halving: the numbers rise.
+    fn place(&self, number: u64) -> Option<usize>
+        requires { AreRising self.now.ended.items }
+        ensures { MatchOption result (All (λ step. step.number ≢ number) self.now.ended.items) (IsAt self.now.ended.items number) }
     {
-        let mut left = self.ended.len();
-        while left > 0 {
-            left -= 1;
-            let step = &self.ended[left];
-            if step.number == number {
-                return Some(step.clause.items());
+        let mut low = 0;
+        let mut high = self.ended.len();
+        while low < high {
+            let middle = low + (high - low) / 2;
+            let found = self.ended[middle].number;
+            if found == number {
+                return Some(middle);
+            }
+            if found < number {
+                low = middle + 1;
+            } else {
+                high = middle;
             }
         }
         None
     }
 
+    // The clause of the step with that number.
+    pub(crate) fn clause(&self, number: u64) -> Option<&[Lit]>
+        requires { AreRising self.now.ended.items }
+        ensures { MatchOption result (clause_of number (level_of self.now).finished ≡ None) (λ clause. clause_of number (level_of self.now).finished ≡ Some clause.now) }
+    {
+        let Some(at) = self.place(number) else {
+            return None;
+        };
+        Some(self.ended[at].clause.items())
+    }
+
     // The clause of the cut with that number.
     pub(crate) fn cut(&self, number: u64) -> Option<&[Lit]>
+        requires { AreRising self.now.ended.items }
         ensures { MatchOption result (clause_of number (cuts_of (level_of self.now)) ≡ None) (λ clause. clause_of number (cuts_of (level_of self.now)) ≡ Some clause.now) }
     {
-        let mut left = self.ended.len();
-        while left > 0 {
-            left -= 1;
-            let step = &self.ended[left];
-            if step.is_cut && step.number == number {
-                return Some(step.clause.items());
-            }
+        let Some(at) = self.place(number) else {
+            return None;
+        };
+        let step = &self.ended[at];
+        if !step.is_cut {
+            return None;
         }
-        None
+        Some(step.clause.items())
     }
 }

@@ -14,6 +14,3 @@ pub use lemma::{Shown, assume, follow_hints};
 pub use level::{EndedStep, OpenLevel};
 pub use levels::OpenLevels;
 pub use names::{has_term, names_terms};
-
-#[cfg(test)]
-mod tests;

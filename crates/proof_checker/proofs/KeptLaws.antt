@@ -1,5 +1,5 @@
 -- What is kept after a line: levels with bounds that were taken back, and theories.
-use Rattle.std.proofs.Common.{◌≡◌, ◌<◌, ℕ, List, [], ◌∷◌, ◌++◌, length, map, Some, None, Result, Ok, Err, IfOk, refl, sym, subst, All, arith}
+use Rattle.std.proofs.Common.{◌≡◌, ◌<◌, ℕ, List, [], ◌∷◌, ◌++◌, length, map, Some, None, Result, Ok, Err, IfOk, refl, sym, subst, All}
 use Rattle.std.proofs.lemmas.List.Elements.{All-weaker}
 use Rattle.mix_system.specs.declared.literal.Term.{Term}
 use Rattle.mix_system.specs.declared.literal.Term.TheVariants.{Var}
@@ -7,9 +7,8 @@ use Rattle.mix_system.specs.declared.literal.Lit.{Lit}
 use Rattle.mix_system.specs.declared.farkas.FarkasPart.{FarkasPart}
 use Rattle.mix_system.specs.Lit.{negation}
 use Rattle.mix_system.specs.System.{System}
-use Rattle.proof_term.specs.Levels.{Level, known, box_of}
+use Rattle.proof_term.specs.Levels.{known, box_of}
 use Rattle.proof_term.specs.Steps.{NamesTerm}
-use Rattle.proof_term.specs.Valid.{closed}
 use Rattle.proof_text.specs.declared.line.Line.{Line}
 use Rattle.box_check.specs.declared.bounds.Bounds.{Bounds}
 use Rattle.box_check.specs.Bounds.{IsOver, HasSlot, Stands, Extends, IsSame}
@@ -32,7 +31,7 @@ use Rattle.proof_checker.specs.declared.kept.Found.{Found}
 use Rattle.proof_checker.specs.declared.kept.Found.TheVariants as found
 use Rattle.proof_checker.specs.declared.kept.Kept.{Kept}
 use Rattle.proof_checker.specs.declared.kept.Kept.TheVariants as kept
-use Rattle.proof_checker.specs.Place.{Place, AtStep, InTree, closed_place, after_leaf}
+use Rattle.proof_checker.specs.Place.{Place, AtStep, InTree, after_leaf}
 use Rattle.proof_checker.specs.Outcome.{Outcome, GoesTo, goal_of}
 use Rattle.proof_checker.specs.Kept.{IsTheory, IsRefuted, IsKept, Comes, LineOf}
 use Rattle.proof_checker.proofs.ComesLaws.{of_kind}
@@ -46,6 +45,8 @@ pub levels_same : (system : System) (cost : Term) (levels : OpenLevels) (bounds 
 levels_same system cost levels bounds kept same = record {
   last = kept.last;
   enclosing = kept.enclosing;
+  below = kept.below;
+  below_around = kept.below_around;
   over = over_later (length system.ranges) (length system.rows) levels.bounds bounds kept.over (same_extends levels.bounds bounds same);
   stands = Stands-later levels.bounds bounds (box_of system cost (levels_of levels.last levels.enclosing.items)) same kept.stands;
 }
@@ -63,11 +64,6 @@ shown_at system last box clause lits hints numbers enclosing slice answer shown 
 pub keeps_at : (old new : Bounds) (answer : Shown) → answer ≡ shown.Follows → Keeps answer old new → IsSame old new
 keeps_at old new answer is keeps = subst (λ (a : Shown). Keeps a old new) is keeps
 
--- after the last level was closed, where others enclose it
-pub closes_to : (next : ℕ) (last : Level) (enclosing : List Level) → 0 < length enclosing → closed_place next last enclosing ≡ AtStep (closed next last enclosing)
-closes_to next last [] some = absurd (omega (arith, some))
-closes_to next last (outer ∷ enclosing) some = refl
-
 module _ (base : Base) where
   pub theory_starts : (levels : OpenLevels) (bounds : Bounds) (clause : List Lit) (mark : ℕ) (boxes : OpenBoxes) → AreLevels base.system.now base.cost levels
       → mark ≡ length levels.bounds.changes.items → All (NamesTerm base.system.now) clause → Adds (map negation clause) levels.bounds bounds
@@ -78,7 +74,7 @@ module _ (base : Base) where
       let box = box_of base.system.now base.cost (levels_of levels.last levels.enclosing.items) in record {
         before = levels.bounds;
         mark = mark_is;
-        levels = record { last = kept.last; enclosing = kept.enclosing; over = kept.over; stands = kept.stands };
+        levels = record { last = kept.last; enclosing = kept.enclosing; below = kept.below; below_around = kept.below_around; over = kept.over; stands = kept.stands };
         named = named;
         stand = starts levels.bounds bounds (map negation clause ++ box) adds.extends (adds.stands box kept.stands);
       }
@@ -92,7 +88,14 @@ module _ (base : Base) where
   theory_moves theory bounds left boxes more t stand = record {
     before = t.before;
     mark = t.mark;
-    levels = record { last = t.levels.last; enclosing = t.levels.enclosing; over = t.levels.over; stands = t.levels.stands };
+    levels = record {
+      last = t.levels.last;
+      enclosing = t.levels.enclosing;
+      below = t.levels.below;
+      below_around = t.levels.below_around;
+      over = t.levels.over;
+      stands = t.levels.stands;
+    };
     named = t.named;
     stand = stand;
   }
@@ -133,7 +136,14 @@ module _ (base : Base) where
   no_box theory bounds left (box ∷ boxes) next t = record {
     before = t.before;
     mark = t.mark;
-    levels = record { last = t.levels.last; enclosing = t.levels.enclosing; over = t.levels.over; stands = t.levels.stands };
+    levels = record {
+      last = t.levels.last;
+      enclosing = t.levels.enclosing;
+      below = t.levels.below;
+      below_around = t.levels.below_around;
+      over = t.levels.over;
+      stands = t.levels.stands;
+    };
     named = t.named;
     extends = (next t.before box boxes t.stand).1;
   }
@@ -141,7 +151,7 @@ module _ (base : Base) where
   pub levels_back : (theory : Theory) (bounds : Bounds) (t : IsRefuted base theory) → IsSame t.before bounds → AreLevels base.system.now base.cost (record theory.levels { bounds = bounds })
   levels_back theory bounds t same =
       let back = levels_same base.system.now base.cost (record theory.levels { bounds = t.before }) bounds t.levels same in
-      record { last = back.last; enclosing = back.enclosing; over = back.over; stands = back.stands }
+      record { last = back.last; enclosing = back.enclosing; below = back.below; below_around = back.below_around; over = back.over; stands = back.stands }
 
   -- a split or a leaf stands for what it gives where some box is left
   pub node_line : (theory : Theory) (l m : Line) (Gives : List Lit → List (List Lit) → Outcome → Type 0) → l ≡ m

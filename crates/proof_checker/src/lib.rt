@@ -16,6 +16,3 @@ pub use laws::{
     checked_texts_bound, texts_have_one_verdict, valid_proofs_pass, valid_texts_have_a_proof,
 };
 pub use verdict::{Reason, Verdict};
-
-#[cfg(test)]
-mod tests;

@@ -4,6 +4,3 @@
 mod boxes;
 
 pub use boxes::{Half, OpenBoxes, Refuted, are_in};
-
-#[cfg(test)]
-mod tests;

@@ -5,6 +5,7 @@ use Rattle.proof_term.specs.Steps.{StaysWithin, negation_step}
 use Rattle.box_check.proofs.BoundsLaws.{Extends_more}
 use Rattle.open_levels.specs.Adds.{Adds}
 use Rattle.open_levels.specs.Kept.{levels_of}
+use Rattle.open_levels.proofs.KeptLaws.{all_rising}
 use Rattle.open_levels.proofs.ShownLaws.{known_named, named_slots, shown_is, keeps_same, at_none}
 use Rattle.open_levels.proofs.lemma.follow_hints.Goals as goal
 
@@ -12,6 +13,7 @@ pub propagates-requires : goal.propagates-requires
 propagates-requires c =
     let available = c.args.available.now in
     record {
+      ordered = (c.requires.last.rising, all_rising available.system.now available.enclosing.now c.requires.enclosing);
       slots = λ number clause is.
           named_slots available.system.now c.assume.new.bounds clause c.in_ok-excess.ensures.over
           (known_named available.system.now available.last.now available.enclosing.now c.requires.formed c.requires.last c.requires.enclosing number clause is);

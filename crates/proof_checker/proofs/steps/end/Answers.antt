@@ -5,7 +5,7 @@ use Rattle.open_levels.specs.declared.level.OpenLevel.{OpenLevel}
 use Rattle.open_levels.specs.Kept.{stage_of, level_of}
 use Rattle.proof_checker.specs.Place.{AtStep, AtEnd, Place, closed_place}
 use Rattle.proof_checker.specs.Outcome.{Next}
-use Rattle.proof_checker.proofs.KeptLaws.{closes_to}
+use Rattle.proof_checker.proofs.SpelledLaws.{closes_to}
 use Rattle.proof_checker.proofs.steps.end.Goals as goal
 
 pub returns-in-Some : goal.returns-in-Some
