@@ -107,14 +107,13 @@ pub fn fed(alloc: Global, call: &str) -> Result<String, NoMemory> {
     let (lines, rest) = marked.split_once('|').unwrap_or((marked, ""));
     let system = system_of_three(alloc, of == "U")?;
     let mut checker = Checker::new(alloc, &system, Term::Row(0))?;
-    let mut going = 0;
-    let mut failed = false;
+    let mut going: u64 = 0;
+    let mut answer = Fed::Going;
     for line in lines.split('/') {
-        match checker.line(line.as_bytes())? {
-            Fed::Going => going += 1,
-            Fed::Failed(_) => failed = true,
-        }
+        answer = checker.line(line.as_bytes())?;
+        going = going.saturating_add(u64::from(answer == Fed::Going));
     }
+    let failed = answer != Fed::Going;
     let answer = shown(alloc, checker.end(rest.as_bytes()))?;
     let end = if failed { ", then one that fails" } else { "" };
     Ok(format!(in alloc; "{going} lines pass{end}; {answer}")?)
