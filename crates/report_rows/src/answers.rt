@@ -8,12 +8,19 @@ use wx_base::{Args, Name, NoMemory, Path};
 pub fn answer(alloc: Global, call: &str) -> Result<String, NoMemory> {
     let (written, rest) = call.split_once(' ').unwrap_or((call, ""));
     let (kind, word) = rest.split_once(' ').unwrap_or((rest, ""));
-    let answer = answer_of(alloc, kind, word)?;
-    let lines = one_line(alloc, &text(alloc, &answer)?)?;
-    let outcome = Outcome {
-        answer,
+    let outcome = outcome_of(alloc, written, kind, word)?;
+    shown(alloc, &outcome)
+}
+
+fn outcome_of(alloc: Global, written: &str, kind: &str, word: &str) -> Result<Outcome, NoMemory> {
+    Ok(Outcome {
+        answer: answer_of(alloc, kind, word)?,
         written: written_of(written),
-    };
+    })
+}
+
+fn shown(alloc: Global, outcome: &Outcome) -> Result<String, NoMemory> {
+    let lines = one_line(alloc, &text(alloc, &outcome.answer)?)?;
     Ok(format!(in alloc; "{}, {lines}", outcome.status())?)
 }
 
