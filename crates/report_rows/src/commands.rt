@@ -62,11 +62,12 @@ fn named(alloc: Global, text: &str) -> Result<Words, NoMemory> {
 
 // The status of an exit code, of those up to 7.
 fn status_of(code: &ExitCode) -> u8 {
-    let mut status = 0;
-    while status < 8 && *code != ExitCode::from(status) {
-        status += 1;
+    for status in 0..8 {
+        if *code == ExitCode::from(status) {
+            return status;
+        }
     }
-    status
+    8
 }
 
 // What is kept of the words of a command line.
