@@ -1,16 +1,5 @@
-pub mod Code
-pub mod CostReading
-pub mod Cursor
 pub mod DefineLine
 pub mod FileLines
 pub mod FileSpells
 pub mod Functions
-pub mod NameTable
-pub mod Plain
-pub mod Reading
-pub mod Rules
 pub mod Sentence
-pub mod Sound
-pub mod Spells
-pub mod Table
-pub mod Text

@@ -1,7 +1,7 @@
-use ir_interpreter::RetVal;
+use ir_runs::{RetVal, UndefinedCause};
 use ll_reader::ReadFault;
 use std::alloc::Global;
-use witness_report::{Answer, Bounds, How, Outcome, UndefinedCause, Which, Witness, Written, text};
+use witness_report::{Answer, Bounds, How, Outcome, Which, Witness, Written, text};
 use wx_base::{Args, Name, NoMemory, Path};
 
 // `WRITTEN ANSWER WORD`: the status of an answer whose text was written so far, and its text.

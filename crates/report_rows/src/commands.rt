@@ -1,7 +1,8 @@
 use crate::answers::one_line;
 use std::alloc::Global;
 use std::process::ExitCode;
-use wcet_core::{NoWords, run, words_of};
+use std::str::SplitWhitespace;
+use wcet_core::{NoWords, exit_code, run, words_of};
 use wx_base::{MemFiles, MemSink, Name, NoMemory, Sequence, Words};
 
 const TRIANGLE: &str = "define i8 @f(i8 %x) {
@@ -21,19 +22,19 @@ const COSTS: &str = "wcet costs 1
 %end 1
 ";
 
-// `READ PUT TAKEN`: what `analyse f FILE COSTS` writes, on a function with a heavy block and its costs, in memory,
-// where the call READ of the files fails, and the call PUT of the sink after so many bytes; then the status, and how
-// many files were stored. A call that isn't made doesn't fail.
+// `READ PUT TAKEN WORD..`: what the words of a command line write, on a function with a heavy block and its costs, in
+// memory, where the call READ of the files fails, and the call PUT of the sink after so many bytes; then the status,
+// and how many files were stored. A call that isn't made doesn't fail.
 pub fn command(alloc: Global, call: &str) -> Result<String, NoMemory> {
     let mut words = call.split_whitespace();
     let read = number(words.next());
     let broken = (number(words.next()), number(words.next()) as usize);
     let mut files = files(alloc, read)?;
     let mut out = MemSink::new(alloc, [broken].to_vec(alloc)?);
-    let words = named(alloc, "analyse f FILE COSTS")?;
+    let words = named(alloc, words)?;
     let outcome = run(alloc, &words, &mut files, &mut out);
     let written = one_line(alloc, out.bytes())?;
-    let (status, stored) = (status_of(&outcome.exit_code()), files.stored().len());
+    let (status, stored) = (status_of(&exit_code(&outcome)), files.stored().len());
     Ok(format!(in alloc; "{written} {status}, {stored} stored")?)
 }
 
@@ -52,9 +53,9 @@ fn files(alloc: Global, failing: u64) -> Result<MemFiles, NoMemory> {
     Ok(MemFiles::new(alloc, pairs, [failing].to_vec(alloc)?))
 }
 
-fn named(alloc: Global, text: &str) -> Result<Words, NoMemory> {
+fn named(alloc: Global, texts: SplitWhitespace<'_>) -> Result<Words, NoMemory> {
     let mut words = Sequence::new(alloc);
-    for word in text.split_whitespace() {
+    for word in texts {
         words.push(Name::new(alloc, word.as_bytes())?)?;
     }
     Ok(words)

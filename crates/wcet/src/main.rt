@@ -1,9 +1,9 @@
-//! `wcet analyse FUNCTION FILE COSTS` prints the worst-case cost of a loop-free function.
+//! `wcet analyse FUNCTION FILE COSTS` prints the worst-case cost of a loop-free function, `wcet run` one run of it.
 #![tactic(auto)]
 
 use std::env;
 use std::process::ExitCode;
-use wcet_core::{NoWords, run, words_of};
+use wcet_core::{NoWords, exit_code, run, words_of};
 use wx_base::{HostFiles, HostSink, Words};
 
 // The words after the program's name.
@@ -17,5 +17,5 @@ fn main(rt: HostRuntime) -> ExitCode {
         Err(cause) => return cause.exit_code(),
     };
     let (mut files, mut out) = (HostFiles::new(&rt), HostSink::new(&rt));
-    run(rt.alloc(), &words, &mut files, &mut out).exit_code()
+    exit_code(&run(rt.alloc(), &words, &mut files, &mut out))
 }

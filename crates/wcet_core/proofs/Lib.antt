@@ -1,6 +1,10 @@
-pub mod ByteLaws
-pub mod DecidedLaws
+mod DecidedLaws
+mod FunctionLaws
+mod JobLaws
 mod LeaderLaws
 mod PlaceLaws
-pub mod SaidLaws
-pub mod WorstLaws
+mod PricedLaws
+mod RunLaws
+mod SaysLaws
+mod WorkLaws
+mod WorstLaws

@@ -1,8 +1,15 @@
--- What contracts see of a function that is run again and again.
-use Rattle.std.specs.Prelude.{ℕ, List}
-use Rattle.ll_reader.specs.declared.first.tree.Func.{Func}
+-- What contracts see of a function with its costs, and of one that is run again and again.
+use Rattle.std.specs.Prelude.{◌≡◌}
+use Rattle.ll_tree.specs.declared.func.Func.{Func}
+use Rattle.ll_verifier.specs.Rules.{Rules}
+use Rattle.sound_costs.specs.Costs.{FuncCosts, AreCostsOf}
 
--- A function, and the costs of its blocks in the order of the file.
+-- A function, and what its blocks and edges cost.
 pub record CostedFunc : Type 0 where
   pub func : Func
-  pub costs : List ℕ
+  pub costs : FuncCosts
+
+-- It keeps all rules, and the costs are its own.
+pub record IsOwn (it : CostedFunc) : Type 0 where
+  pub rules : Rules it.func
+  pub costs : AreCostsOf it.func it.costs

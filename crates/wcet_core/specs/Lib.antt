@@ -1,8 +1,8 @@
+pub mod Accepted
+pub mod Causes
 pub mod Edge
 pub mod FuncMachine
-pub mod Printed
 pub mod Promises
-pub mod Says
+pub mod Steps
 pub mod Trial
-pub mod Words
 pub mod Worst

@@ -1,21 +1,20 @@
--- What is promised of each answer: of the words, and of the files before and after the call.
-use Rattle.std.specs.Prelude.{◌≡◌, ◌⊎◌, ℕ, ◌<◌, ◌≤◌, List, sum, take, length, Option, Some}
+-- What a call promises: of the words, and of files and sink before and after it.
+use Rattle.std.specs.Prelude.{◌≡◌, ◌⊎◌, ℕ, ◌≤◌, List, take, length, Option, Some}
 use Rattle.wx_base.specs.Faults.{Rose}
-use Rattle.wx_base.specs.Files.{FilesView, IsTooLong, AreLonger, with_end}
+use Rattle.wx_base.specs.Files.{FilesView, IsTooLong, with_end}
 use Rattle.wx_base.specs.Sink.{SinkView, written_with}
-use Rattle.ll_reader.specs.declared.first.tree.Func.{Func}
-use Rattle.ir_interpreter.specs.Run.{widths_of}
-use Rattle.wcet_core.specs.Words.{JobNames, job_of}
-use Rattle.wcet_core.specs.Worst.{IsFile, IsNoFile, IsCosts, IsNoCosts, IsWorst}
-use Rattle.wcet_core.specs.declared.limits.TheConstants.{FILE_LIMIT, COSTS_LIMIT, MOST_BITS}
-use Rattle.wcet_core.specs.declared.outcome.Answer.{Answer}
-use Rattle.wcet_core.specs.declared.outcome.Answer.TheVariants as answers
-use Rattle.wcet_core.specs.declared.outcome.How.{How}
-use Rattle.wcet_core.specs.declared.outcome.Which.{Which}
-use Rattle.wcet_core.specs.declared.outcome.Which.TheVariants as which
-use Rattle.wcet_core.specs.declared.outcome.Witness.{Witness}
-use Rattle.wcet_core.specs.declared.outcome.Written.{Written}
-use Rattle.wcet_core.specs.declared.outcome.Written.TheVariants as written
+use Rattle.ll_tree.specs.declared.func.Func.{Func}
+use Rattle.ll_verifier.specs.Answer.{pinned}
+use Rattle.cost_table.specs.Table.{CostLists}
+use Rattle.command_words.specs.Words.{JobWords, Asks}
+use Rattle.witness_report.specs.declared.answer.Answer.{Answer}
+use Rattle.witness_report.specs.declared.answer.Answer.TheVariants as answers
+use Rattle.witness_report.specs.declared.answer.Which.TheVariants as which
+use Rattle.witness_report.specs.declared.outcome.Written.{Written}
+use Rattle.witness_report.specs.declared.outcome.Written.TheVariants as written
+use Rattle.wcet_core.specs.Accepted.{IsAccepted, IsCosted, costs_of}
+use Rattle.wcet_core.specs.Causes.{Cause, IsAnswer}
+use Rattle.wcet_core.specs.declared.limits.TheConstants.{FILE_LIMIT, COSTS_LIMIT}
 
 -- ---- two moments of the files
 
@@ -26,105 +25,70 @@ pub record Keeps (old new : FilesView) : Type 0 where
   pub faults : old.faults ≤ new.faults
   pub taken : old.taken ≤ new.taken
 
+-- no name was asked for
+abbrev pub AsksNothing : FilesView → FilesView → Type 0
+AsksNothing old new = new.asked ≡ old.asked
+
 -- this name was asked for, and no other
-abbrev pub AskedNext : List ℕ → FilesView → FilesView → Type 0
-AskedNext name old new = new.asked ≡ with_end old.asked name
+abbrev pub AsksNext : List ℕ → FilesView → FilesView → Type 0
+AsksNext name old new = new.asked ≡ with_end old.asked name
 
 -- the job's file was asked for, and then its table
-abbrev pub AskedBoth : JobNames → FilesView → FilesView → Type 0
-AskedBoth job old new = new.asked ≡ with_end (with_end old.asked job.file) job.costs
+abbrev pub AsksBoth : JobWords → FilesView → FilesView → Type 0
+AsksBoth job old new = new.asked ≡ with_end (with_end old.asked job.file) job.costs
+
+abbrev pub AsksFile : List (List ℕ) → FilesView → FilesView → Type 0
+AsksFile words old new = (job : JobWords) × Asks words job × AsksNext job.file old new
+
+abbrev pub AsksAll : List (List ℕ) → FilesView → FilesView → Type 0
+AsksAll words old new = (job : JobWords) × Asks words job × AsksBoth job old new
 
 -- the moment after the job's file was taken
-pub record IsAfterFile (job : JobNames) (old middle : FilesView) : Type 0 where
+pub record IsAfterFile (job : JobWords) (old middle : FilesView) : Type 0 where
   pub keeps : Keeps old middle
-  pub asked : AskedNext job.file old middle
-
--- ---- answers
-
--- The words have a job, whose file spells a function and whose table gives its costs.
-pub record IsRead (words : List (List ℕ)) (old new : FilesView) : Type 0 where
-  pub job : JobNames
-  pub words_are : job_of words ≡ Some job
-  pub func : Func
-  pub file : IsFile old.contents job func
-  pub costs : List ℕ
-  pub table : IsCosts old.contents job func costs
-  pub asked : AskedBoth job old new
-
--- both were read, and the witness is the worst case
-pub record IsExact (words : List (List ℕ)) (old new : FilesView) (witness : Witness) : Type 0 where
-  pub read : IsRead words old new
-  pub worst : IsWorst read.func read.costs witness
-
-abbrev pub ExactHolds : List (List ℕ) → FilesView → FilesView → Answer → Type 0
-ExactHolds words old new answer = (witness : Witness) (how : How) → answer ≡ answers.Exact witness how → IsExact words old new witness
-
--- both were read, and the function's parameters have this many bits, which are too many
-pub record IsTooWide (words : List (List ℕ)) (old new : FilesView) (bits : ℕ) : Type 0 where
-  pub read : IsRead words old new
-  pub bits_are : bits ≡ sum (widths_of read.func)
-  pub more : MOST_BITS < bits
-
-abbrev pub TooWideHolds : List (List ℕ) → FilesView → FilesView → Answer → Type 0
-TooWideHolds words old new answer = (bits : ℕ) → answer ≡ answers.TooWide bits → IsTooWide words old new bits
-
--- the file, or after it the table, isn't of the kind that is read
-abbrev pub IsNotYet : List (List ℕ) → FilesView → FilesView → Which → Type 0
-IsNotYet words old new which.File = (job : JobNames) × (job_of words ≡ Some job) × IsNoFile old.contents job × AskedNext job.file old new
-IsNotYet words old new which.Costs = (job : JobNames) × (job_of words ≡ Some job) × (func : Func) × IsFile old.contents job func × IsNoCosts old.contents job func × AskedBoth job old new
-IsNotYet words old new which.Proof = ⊥
-
-abbrev pub NotYetHolds : List (List ℕ) → FilesView → FilesView → Answer → Type 0
-NotYetHolds words old new answer = (one : Which) → answer ≡ answers.NotYet one → IsNotYet words old new one
+  pub asked : AsksNext job.file old middle
 
 -- the table is longer than its limit, from the moment on after the file was taken
-pub record IsLongTable (job : JobNames) (old new : FilesView) : Type 0 where
+pub record IsLongTable (job : JobWords) (old new : FilesView) : Type 0 where
   pub middle : FilesView
   pub after_file : IsAfterFile job old middle
   pub too_long : IsTooLong middle new job.costs COSTS_LIMIT
 
--- the file, or after it the table, is longer than its limit
-abbrev pub IsLong : List (List ℕ) → FilesView → FilesView → Which → Type 0
-IsLong words old new which.File = (job : JobNames) × (job_of words ≡ Some job) × IsTooLong old new job.file FILE_LIMIT × AskedNext job.file old new
-IsLong words old new which.Costs = (job : JobNames) × (job_of words ≡ Some job) × (func : Func) × IsFile old.contents job func × IsLongTable job old new × AskedBoth job old new
-IsLong words old new which.Proof = ⊥
+-- ---- answers
 
-abbrev pub TooLongHolds : List (List ℕ) → FilesView → FilesView → Answer → Type 0
-TooLongHolds words old new answer = (one : Which) → answer ≡ answers.TooLong one → IsLong words old new one
-
--- the outside failed, and this file was the last that was asked for
-abbrev pub IsFault : List (List ℕ) → FilesView → FilesView → Which → Type 0
-IsFault words old new which.File = (job : JobNames) × (job_of words ≡ Some job) × Rose old.faults new.faults × AskedNext job.file old new
-IsFault words old new which.Costs = (job : JobNames) × (job_of words ≡ Some job) × (func : Func) × IsFile old.contents job func × Rose old.faults new.faults × AskedBoth job old new
-IsFault words old new which.Proof = ⊥
-
-abbrev pub FaultHolds : List (List ℕ) → FilesView → FilesView → Answer → Type 0
-FaultHolds words old new answer = (one : Which) → answer ≡ answers.FetchFault one → IsFault words old new one
-
--- what was asked for is a front of the job's file and its table
-abbrev pub AsksInOrder : List (List ℕ) → FilesView → FilesView → Type 0
-AsksInOrder words old new = (new.asked ≡ old.asked) ⊎ ((job : JobNames) × (job_of words ≡ Some job) × (AskedNext job.file old new ⊎ AskedBoth job old new))
+-- What an answer says of the words, of what the files told, and of what was asked of them.
+abbrev pub Says : List (List ℕ) → FilesView → FilesView → Answer → Type 0
+Says words old new answers.Usage = Cause words old.contents answers.Usage × AsksNothing old new
+Says words old new (answers.FetchFault which.File) = Rose old.faults new.faults × AsksFile words old new
+Says words old new (answers.FetchFault which.Costs) = Rose old.faults new.faults × ((job : JobWords) × (func : Func) × IsAccepted words old.contents job func × AsksBoth job old new)
+Says words old new (answers.FetchFault which.Proof) = ⊥
+Says words old new (answers.TooLong which.File) = (job : JobWords) × Asks words job × IsTooLong old new job.file FILE_LIMIT × AsksNext job.file old new
+Says words old new (answers.TooLong which.Costs) = (job : JobWords) × (func : Func) × IsAccepted words old.contents job func × IsLongTable job old new × AsksBoth job old new
+Says words old new (answers.TooLong which.Proof) = ⊥
+Says words old new (answers.Read fault) = Cause words old.contents (answers.Read fault) × AsksFile words old new
+Says words old new (answers.Verify fault) = Cause words old.contents (answers.Verify fault) × AsksFile words old new
+Says words old new answers.NoMemory = AsksNothing old new ⊎ (AsksFile words old new ⊎ AsksAll words old new)
+Says words old new answer = Cause words old.contents answer × AsksAll words old new
 
 -- ---- told contents decide the answer
 
-abbrev pub IsExactAnswer : Answer → Type 0
-IsExactAnswer answer = (witness : Witness) × (how : How) × (answer ≡ answers.Exact witness how)
+-- an answer without what is free in it: the cycle and the path of a function that is refused
+abbrev pub pinned_answer : Answer → Answer
+pinned_answer (answers.Verify fault) = answers.Verify (pinned fault)
+pinned_answer answer = answer
 
 -- this is answered, unless memory is wanting
 abbrev pub Either : Type 0 → Answer → Type 0
 Either P answer = P ⊎ (answer ≡ answers.NoMemory)
 
--- Where the files tell their contents and didn't fail, what they tell decides the answer.
-pub record IsDecided (job : JobNames) (old : FilesView) (answer : Answer) : Type 0 where
-  pub too_long_file : AreLonger old.contents job.file FILE_LIMIT → Either (answer ≡ answers.TooLong which.File) answer
-  pub not_yet_file : IsNoFile old.contents job → Either (answer ≡ answers.NotYet which.File) answer
-  pub too_long_costs : (func : Func) → IsFile old.contents job func → AreLonger old.contents job.costs COSTS_LIMIT → Either (answer ≡ answers.TooLong which.Costs) answer
-  pub not_yet_costs : (func : Func) → IsFile old.contents job func → IsNoCosts old.contents job func → Either (answer ≡ answers.NotYet which.Costs) answer
-  pub too_wide : (func : Func) (costs : List ℕ) → IsFile old.contents job func → IsCosts old.contents job func costs → MOST_BITS < sum (widths_of func) → Either (answer ≡ answers.TooWide (sum (widths_of func))) answer
-  pub exact : (func : Func) (costs : List ℕ) → IsFile old.contents job func → IsCosts old.contents job func costs → sum (widths_of func) ≤ MOST_BITS → Either (IsExactAnswer answer) answer
+-- Where the files tell their contents and didn't fail, what they hold decides the answer: it is the one that has a
+-- cause, and one of its function where they give a function and its costs.
+pub record IsDecided (words : List (List ℕ)) (old : FilesView) (answer : Answer) : Type 0 where
+  pub same : (other : Answer) → Cause words old.contents other → Either (pinned_answer answer ≡ pinned_answer other) answer
+  pub ends : (job : JobWords) (func : Func) (costs : CostLists) → IsCosted words old.contents job func costs → Either (IsAnswer job func (costs_of func costs) answer) answer
 
 abbrev pub Decides : List (List ℕ) → FilesView → FilesView → Answer → Type 0
-Decides words old new answer = (contents : List ℕ → Option (List ℕ)) (job : JobNames) → old.contents ≡ Some contents → job_of words ≡ Some job → (Rose old.faults new.faults → ⊥) → IsDecided job old answer
+Decides words old new answer = (contents : List ℕ → Option (List ℕ)) → old.contents ≡ Some contents → ¬ Rose old.faults new.faults → IsDecided words old answer
 
 -- ---- the sink
 

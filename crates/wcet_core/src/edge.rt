@@ -2,15 +2,15 @@ ghost use Rattle.std.specs.Prelude.{◌≡◌, ◌≢◌, drop, map, string_byte
 ghost use Rattle.std.specs.IoError.{error_kind};
 ghost use Rattle.std.specs.Process.{exit_status};
 ghost use Rattle.std.specs.Vec.Iter.{into_iter_items};
-ghost use Rattle.wcet_core.specs.Printed.{status_of};
+ghost use Rattle.witness_report.specs.Status.{status_of};
 ghost use Rattle.wcet_core.specs.Edge.{no_words_status, IsCause};
 ghost use Rattle.wcet_core.specs.declared.edge.NoWords.TheVariants as causes;
 
-use crate::Outcome;
 use std::alloc::Global;
 use std::env::Args;
 use std::io;
 use std::process::ExitCode;
+use witness_report::Outcome;
 use wx_base::{Name, NoMemory, Sequence, Words};
 
 /// Why there are no words to be had.
@@ -53,13 +53,11 @@ impl NoWords {
     }
 }
 
-impl Outcome {
-    /// The status that the process ends with.
-    pub fn exit_code(&self) -> ExitCode
-        ensures { exit_status result ≡ status_of self.now }
-    {
-        ExitCode::from(self.status())
-    }
+/// The status that the process ends with.
+pub fn exit_code(outcome: &Outcome) -> ExitCode
+    ensures { exit_status result ≡ status_of outcome.now }
+{
+    ExitCode::from(outcome.status())
 }
 
 /// The words of a command line: all but the first, which is the program's name, in order.

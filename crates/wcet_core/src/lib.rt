@@ -1,21 +1,20 @@
 //! The core of `wcet`: what a function costs at most, and on which arguments.
 #![tactic(auto)]
 
-mod analyse;
+mod answer;
 mod command;
 mod edge;
+mod ended;
+mod laws;
 mod limits;
 mod machine;
-mod outcome;
-mod printed;
+mod priced;
+mod single;
 mod trial;
-mod words;
+mod work;
 mod worst;
 
 pub use command::run;
-pub use edge::{NoWords, words_of};
-pub use limits::{COSTS_LIMIT, FILE_LIMIT, MOST_BITS};
-pub use outcome::{Answer, How, Outcome, Which, Witness, Written};
-pub use printed::text;
+pub use edge::{NoWords, exit_code, words_of};
+pub use limits::{BRUTE_BITS, COSTS_LIMIT, FILE_LIMIT, TRIAL_BITS};
 pub use trial::{Best, Machine, try_all};
-pub use words::{Job, job_of};

@@ -1,57 +1,66 @@
-ghost use Rattle.std.specs.Prelude.{◌≡◌, length, IfOk};
-ghost use Rattle.ir_interpreter.specs.Run.{Reached, widths_of};
+ghost use Rattle.std.specs.Prelude.{◌≡◌, IfOk};
+ghost use Rattle.ir_runs.specs.Costs.{Reached};
+ghost use Rattle.ir_runs.specs.Walk.{widths_of};
+ghost use Rattle.sound_costs.specs.Costs.{AreCostsOf, costs_by_label};
 
 use crate::Machine;
-use ir_interpreter::Runner;
-use ll_reader::first::{Costs, Sound};
+use crate::priced::Priced;
+use ir_runner::Runner;
+use ir_runs::{RunEnd, each_list_ends_once};
+use ll_verifier::Sound;
+use sound_costs::Costs;
 use std::alloc::Global;
 use std::marker::Model;
 use wx_base::NoMemory;
 
-/// A function of the first text with the costs of its blocks, to be run again and again. Contracts see it
-/// as these two.
+/// A function with its costs, to be run again and again. Contracts see it as these two.
 #[derive(Drop)]
 pub(crate) struct FuncMachine<'a> {
     runner: Runner<'a>,
-    costs: &'a Costs,
+    priced: Priced<'a>,
 }
 
 impl<'a> Model for FuncMachine<'a> {
-    ghost use Rattle.std.specs.Prelude.{◌≡◌, length};
+    ghost use Rattle.std.specs.Prelude.{◌≡◌};
     ghost use Rattle.wcet_core.specs.FuncMachine.{CostedFunc};
 
     ghost Value = { CostedFunc };
 
-    ghost view = { λ machine. record { func = machine.runner.func; costs = machine.costs.now } };
+    ghost view = { λ machine. machine.priced };
 
-    ghost invariant = { λ machine. length machine.costs.now ≡ length machine.runner.func.blocks };
+    ghost invariant = { λ machine. machine.runner.func ≡ machine.priced.func };
 }
 
 impl<'a> FuncMachine<'a> {
-    /// The function with a cost for each block.
+    /// The function with its costs.
     pub(crate) fn new(
         alloc: Global,
         sound: &'a Sound,
         costs: &'a Costs,
     ) -> Result<FuncMachine<'a>, NoMemory>
-        requires { length costs.now ≡ length sound.now.blocks }
+        requires { AreCostsOf sound.now.func costs.now }
         ensures { IfOk result (λ machine.
-            machine ≡ record { func = sound.now; costs = costs.now }) }
+            machine ≡ record { func = sound.now.func; costs = costs.now }) }
     {
         let runner = Runner::new(alloc, sound)?;
-        Ok(FuncMachine { runner, costs })
+        let priced = Priced::new(sound, costs);
+        Ok(FuncMachine { runner, priced })
     }
 }
 
 impl<'a> Machine for FuncMachine<'a> {
     ghost widths = { λ machine. widths_of machine.func };
 
-    ghost reaches = { λ machine args n. Reached machine.func machine.costs n args };
+    ghost reaches = { λ machine args n.
+        Reached machine.func (costs_by_label machine.func machine.costs) n args };
 
-    ghost always_runs = { λ _. Unit {0} };
+    ghost always_runs = { λ _. ⊥ };
 
     fn run(&mut self, args: &[u32]) -> Option<u64> {
-        let done = self.runner.run(args, self.costs);
-        Some(done.cost)
+        each_list_ends_once();
+        match self.runner.run(args, &self.priced) {
+            RunEnd::Done { cost, .. } => Some(cost),
+            RunEnd::Undefined { .. } => None,
+        }
     }
 }

@@ -1,91 +1,97 @@
-ghost use Rattle.std.specs.Prelude.{◌≡◌, ◌≤◌, ◌<◌, ◌^◌, [], map, sum, length, slice_index_or, All, IfOk};
-ghost use Rattle.ll_reader.specs.Rules.{labels_of};
-ghost use Rattle.ir_interpreter.specs.Run.{widths_of};
-ghost use Rattle.wcet_core.specs.Says.{SaysOfWorst};
-ghost use Rattle.wcet_core.specs.Worst.{IsWorst, numbers_of};
-ghost use Rattle.wcet_core.specs.declared.limits.TheConstants.{MOST_BITS};
+ghost use Rattle.std.specs.Prelude.{◌≡◌, ◌<◌, ℕ, map, IfOk};
+ghost use Rattle.wx_base.specs.Args.{AreArguments};
+ghost use Rattle.ir_runs.specs.Costs.{LabelCosts, Reached};
+ghost use Rattle.ir_runs.specs.Walk as walks;
+ghost use Rattle.sound_costs.specs.Costs.{AreCostsOf, costs_by_label};
+ghost use Rattle.wcet_core.specs.Steps.{SaysOfTrial};
+ghost use Rattle.wcet_core.specs.Worst as spec;
+ghost use Rattle.wcet_core.specs.Worst.{IsRun};
 
-use crate::limits::MOST_BITS;
+use crate::ended::{Ended, run_on};
 use crate::machine::FuncMachine;
-use crate::{Answer, How, Witness, try_all};
-use ir_interpreter::Runner;
-use ll_reader::first::{Costs, Sound};
+use crate::try_all;
+use ir_runs::each_list_ends_once;
+use ll_tree::Param;
+use ll_verifier::Sound;
+use sound_costs::Costs;
 use std::alloc::Global;
-use wx_base::{Arg, Args, Copied, NoMemory, Path, Sequence};
+use witness_report::{Answer, How, Witness};
+use wx_base::{Arg, Args, NoMemory, Sequence};
 
-// The width of each parameter in bits.
-const BYTE: u32 = 8;
-
-// The bits that the parameters have in all.
-fn bits_of(sound: &Sound) -> u32
-    ensures { result ≡ sum (widths_of sound.now) }
+/// What is answered of a trial of all arguments, where they have so many bits at most.
+pub(crate) fn worst(
+    alloc: Global,
+    most: u32,
+    how: How,
+    sound: &Sound,
+    costs: &Costs,
+) -> Result<Answer, NoMemory>
+    requires few { most < 32 }
+    requires costs { AreCostsOf sound.now.func costs.now }
+    ensures { let by_label = costs_by_label sound.now.func costs.now in
+        IfOk result (SaysOfTrial sound.now.func by_label most how) }
 {
-    BYTE * sound.func().params.len() as u32
-}
-
-/// The worst case of a function with these costs, where its parameters have 16 bits or fewer in all.
-pub(crate) fn worst(alloc: Global, sound: &Sound, costs: &Costs) -> Answer
-    requires { length costs.now ≡ length sound.now.blocks }
-    ensures { SaysOfWorst sound.now costs.now result }
-{
-    let bits = bits_of(sound);
-    if bits > MOST_BITS {
-        return Answer::TooWide { bits };
+    let bits = sound.bits();
+    if bits > most {
+        return Ok(Answer::TooWide { bits });
     }
-    match witness(alloc, sound, costs) {
-        Ok(witness) => Answer::Exact {
-            witness,
-            how: How::Trial,
-        },
-        Err(NoMemory) => Answer::NoMemory,
-    }
-}
-
-// The first of the arguments that cost the most, with their run.
-fn witness(alloc: Global, sound: &Sound, costs: &Costs) -> Result<Witness, NoMemory>
-    requires costs { length costs.now ≡ length sound.now.blocks }
-    requires bits { sum (widths_of sound.now) ≤ MOST_BITS }
-    ensures { IfOk result (IsWorst sound.now costs.now) }
-{
-    let widths = vec![in alloc; BYTE; sound.func().params.len()]?;
+    let params = sound.func().params.items();
+    let widths = widths_of(alloc, params)?;
     let mut machine = FuncMachine::new(alloc, sound, costs)?;
-    let best = try_all(alloc, &mut machine, &widths)?.unwrap();
-    let mut runner = Runner::new(alloc, sound)?;
-    let done = runner.run(best.args.items(), costs);
-    Ok(Witness {
-        args: args_of(alloc, best.args.items())?,
-        path: labels_at(alloc, sound, runner.path())?,
-        result: done.result,
-        cost: done.cost,
+    let Some(best) = try_all(alloc, &mut machine, &widths)? else {
+        return Ok(Answer::NoRun { how });
+    };
+    let args = args_of(alloc, params, best.args.items())?;
+    let witness = witness(alloc, args, sound, costs)?;
+    let portions = Sequence::new(alloc);
+    Ok(Answer::Exact {
+        witness,
+        how,
+        portions,
     })
 }
 
+fn widths_of(alloc: Global, params: &[Param]) -> Result<Vec<u32>, NoMemory>
+    ensures { IfOk result (λ widths. widths.items ≡ map (λ param. param.width) params.now) }
+{
+    Ok(params.iter().map(|param| param.width).collect(alloc)?)
+}
+
 // The arguments of these numbers.
-fn args_of(alloc: Global, numbers: &[u32]) -> Result<Args, NoMemory>
-    requires { All (λ number. number < 2 ^ 8) numbers.now }
-    ensures numbers { IfOk result (λ args. numbers_of args ≡ numbers.now) }
-    ensures widths { IfOk result (λ args. map (λ arg. arg.width) args ≡ map (λ _. 8) numbers.now) }
+fn args_of(alloc: Global, params: &[Param], numbers: &[u32]) -> Result<Args, NoMemory>
+    requires { AreArguments (map (λ param. param.width) params.now) numbers.now }
+    ensures numbers { IfOk result (λ args. spec.numbers_of args ≡ numbers.now) }
+    ensures widths { IfOk result (λ args.
+        map (λ arg. arg.width) args ≡ map (λ param. param.width) params.now) }
 {
     let mut args = Sequence::new(alloc);
-    for number in numbers {
+    for (at, param) in params.iter().enumerate() {
         args.push(Arg {
-            width: BYTE,
-            value: *number,
+            width: param.width,
+            value: numbers[at],
         })?;
     }
     Ok(args)
 }
 
-// The labels of the blocks at these places.
-fn labels_at(alloc: Global, sound: &Sound, places: &[u32]) -> Result<Path, NoMemory>
-    requires { All (λ place. place < length sound.now.blocks) places.now }
-    ensures { IfOk result (λ path.
-        path ≡ map (λ place. slice_index_or (labels_of sound.now) place []) places.now) }
+// The run on arguments that have one.
+fn witness(
+    alloc: Global,
+    args: Args,
+    sound: &Sound,
+    costs: &Costs,
+) -> Result<Witness, NoMemory>
+    requires costs { AreCostsOf sound.now.func costs.now }
+    requires widths { map (λ arg. arg.width) args ≡ walks.widths_of sound.now.func }
+    requires reached { (n : ℕ) × Reached sound.now.func
+        (costs_by_label sound.now.func costs.now) n (spec.numbers_of args) }
+    ensures args { IfOk result (λ witness. witness.args ≡ args) }
+    ensures run { let by_label = costs_by_label sound.now.func costs.now in
+        IfOk result (IsRun sound.now.func by_label) }
 {
-    let mut path = Sequence::new(alloc);
-    let blocks = sound.func().blocks.items();
-    for place in places {
-        path.push(blocks[*place as usize].label.copy(alloc)?)?;
+    each_list_ends_once();
+    match run_on(alloc, args, sound, costs)? {
+        Ended::Ran(witness) => Ok(witness),
+        Ended::Stuck { .. } => unreachable!(),
     }
-    Ok(path)
 }

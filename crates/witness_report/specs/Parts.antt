@@ -5,8 +5,8 @@ use Rattle.wx_base.specs.declared.lists.Arg.{Arg}
 use Rattle.ll_tree.specs.Naming.{name_text}
 use Rattle.ll_tree.specs.Words.{type_word}
 use Rattle.ll_verifier.specs.declared.fault.Spot.{Spot}
-use Rattle.ir_interpreter.specs.declared.ret_val.RetVal.{RetVal}
-use Rattle.ir_interpreter.specs.declared.ret_val.RetVal.TheVariants.{Void, Poison, Num}
+use Rattle.ir_runs.specs.declared.ret_val.RetVal.{RetVal}
+use Rattle.ir_runs.specs.declared.ret_val.RetVal.TheVariants.{Void, Poison, Num}
 
 abbrev pub line : List ℕ → List ℕ
 line text = text ++ 10 ∷ []

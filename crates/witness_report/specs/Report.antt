@@ -2,15 +2,15 @@
 use Rattle.std.specs.Prelude.{ℕ, List, [], ◌∷◌, ◌++◌, codes, Option, Some, None}
 use Rattle.std.specs.List.{flat_map}
 use Rattle.std.specs.Fmt.{decimal}
-use Rattle.ir_interpreter.specs.declared.ret_val.RetVal.{RetVal}
+use Rattle.ir_runs.specs.declared.ret_val.RetVal.{RetVal}
 use Rattle.witness_report.specs.Parts.{line, spaced, spaced_arg, spaced_name, spaced_value}
 use Rattle.witness_report.specs.Refusals.{read_text, verify_text, cost_text}
 use Rattle.witness_report.specs.declared.answer.How.{How}
 use Rattle.witness_report.specs.declared.answer.How.TheVariants as how
 use Rattle.witness_report.specs.declared.answer.Which.{Which}
 use Rattle.witness_report.specs.declared.answer.Which.TheVariants as which
-use Rattle.witness_report.specs.declared.answer.UndefinedCause.{UndefinedCause}
-use Rattle.witness_report.specs.declared.answer.UndefinedCause.TheVariants.{PoisonBranch, PoisonSwitch, PoisonReturn, Unreachable, PoisonArgument, FalseAssume}
+use Rattle.ir_runs.specs.declared.undefined.UndefinedCause.{UndefinedCause}
+use Rattle.ir_runs.specs.declared.undefined.UndefinedCause.TheVariants.{PoisonBranch, PoisonSwitch, PoisonReturn, Unreachable, PoisonArgument, FalseAssume}
 use Rattle.witness_report.specs.declared.answer.Witness.{Witness}
 use Rattle.witness_report.specs.declared.answer.PortionBound.{PortionBound}
 use Rattle.witness_report.specs.declared.answer.Answer.{Answer}

@@ -1,5 +1,5 @@
 use cost_table::CostFault;
-use ir_interpreter::RetVal;
+use ir_runs::{RetVal, UndefinedCause};
 use ll_reader::ReadFault;
 use ll_verifier::VerifyFault;
 use wx_base::{Args, Name, Path, Sequence};
@@ -85,22 +85,4 @@ pub enum Which {
     File,
     Costs,
     Proof,
-}
-
-/// Why arguments have no run (LLVM Language Reference, "Poison Values", "`unreachable` Instruction", "`llvm.assume`
-/// Intrinsic").
-#[derive(Clone, Copy, Debug, PartialEq, Eq)]
-pub enum UndefinedCause {
-    /// A conditional branch on poison.
-    PoisonBranch,
-    /// A switch on poison.
-    PoisonSwitch,
-    /// Poison is returned where the result is `noundef`.
-    PoisonReturn,
-    /// The end of the block is `unreachable`.
-    Unreachable,
-    /// An argument lies outside the range of a parameter that is `noundef`.
-    PoisonArgument,
-    /// The condition of an assume isn't true.
-    FalseAssume,
 }

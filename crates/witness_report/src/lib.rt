@@ -7,6 +7,6 @@ mod parts;
 mod refusals;
 mod report;
 
-pub use answer::{Answer, Bounds, How, PortionBound, UndefinedCause, Which, Witness};
+pub use answer::{Answer, Bounds, How, PortionBound, Which, Witness};
 pub use outcome::{Outcome, Written};
 pub use report::text;

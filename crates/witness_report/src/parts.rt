@@ -3,7 +3,7 @@ ghost use Rattle.std.specs.List.{flat_map};
 ghost use Rattle.ll_tree.specs.Words.{type_word};
 ghost use Rattle.witness_report.specs.Parts.{line, local, spaced, typed_number, spaced_arg, spaced_name, spaced_spot, spaced_value};
 
-use ir_interpreter::RetVal;
+use ir_runs::RetVal;
 use itoa::Buffer;
 use ll_tree::push_name;
 use ll_verifier::Spot;

@@ -10,8 +10,8 @@ use crate::parts::{
     push_value,
 };
 use crate::refusals::{push_cost, push_read, push_verify};
-use crate::{Answer, How, PortionBound, UndefinedCause, Which, Witness};
-use ir_interpreter::RetVal;
+use crate::{Answer, How, PortionBound, Which, Witness};
+use ir_runs::{RetVal, UndefinedCause};
 use std::alloc::Global;
 use wx_base::{Arg, Name, NoMemory};
 

@@ -1,5 +1,0 @@
-use Rattle.ll_reader.proofs.NameTableLaws.{added}
-use Rattle.ll_reader.proofs.first.name_table.NameTable.add.Goals as goal
-
-pub returns-clause-added : goal.returns-clause-added
-returns-clause-added c = rw (← c.self.view_is) (added c.args.name c.self.inside.names.keys c.insert.new.self.keys c.in_ok-insert.field-0 c.in_ok-insert.ensures.added c.in_ok-insert.ensures.keys)
