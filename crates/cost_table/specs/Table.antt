@@ -1,5 +1,6 @@
 -- Tables of costs, and why a text is none.
 use Rattle.std.specs.Prelude.{◌≡◌, ◌⊎◌, ◌<◌, ℕ, List, [], ◌∷◌, length, map, codes, slice_index, Contains}
+use Rattle.std.specs.Borrow.{Bor}
 use Rattle.bstr.specs.Text.{lines_of, without_terminator}
 use Rattle.flow_graph.specs.declared.edge.Edge.{Edge}
 use Rattle.cost_table.specs.Entries.{label_at, Goes, FlawAt}
@@ -9,6 +10,10 @@ use Rattle.cost_table.specs.declared.entry.Entry.{Entry}
 use Rattle.cost_table.specs.declared.entry.Entry.TheVariants as entry
 use Rattle.cost_table.specs.declared.entry.Flaw.{Flaw}
 use Rattle.cost_table.specs.declared.entry.Flaw.TheVariants as flaw
+
+-- labels that are lent
+abbrev pub spelled : List (Bor (List ℕ)) → List (List ℕ)
+spelled labels = map (λ (label : Bor (List ℕ)). label.now) labels
 
 -- The costs of blocks by their places, and of edges by their numbers.
 pub record CostLists : Type 0 where

@@ -2,7 +2,7 @@ ghost use Rattle.std.specs.Prelude.{◌≡◌, ◌≢◌, ◌⊎◌, ◌<◌, �
 ghost use Rattle.flow_graph.specs.Sorted.{AreSorted};
 ghost use Rattle.cost_table.specs.declared.entry.Entry.{Entry as Given};
 ghost use Rattle.cost_table.specs.Entries.{Goes, Keeps};
-ghost use Rattle.cost_table.specs.Table.{CostLists, Table, IsHeading, IsCause, IsLineFault, fault_at};
+ghost use Rattle.cost_table.specs.Table.{CostLists, Table, IsHeading, IsCause, IsLineFault, fault_at, spelled};
 ghost use Rattle.cost_table.specs.declared.costs.CostFault.{CostFault as Fault};
 ghost use Rattle.cost_table.specs.declared.costs.CostFault.TheVariants as faults;
 
@@ -10,10 +10,11 @@ use crate::entry::Flaw;
 use crate::ledger::{Ledger, costs_in, first_missing};
 use bstr::{ByteSlice, Lines};
 use flow_graph::Edge;
+use name_table::{NameTable, table_of};
 use std::alloc::Global;
 use std::marker::Model;
 use thiserror::Error;
-use wx_base::{Copied, Name, NoMemory, Sequence};
+use wx_base::{Name, NoMemory, Sequence};
 
 /// Why a text is no table of costs. Lines are counted from 1; the first wrong line decides.
 #[derive(Debug, Drop, Error)]
@@ -76,19 +77,19 @@ impl Costs {
     }
 
     /// The cost of the block at a place.
-    pub fn of(&self, block: u32) -> u32
+    pub fn of(&self, block: usize) -> u32
         requires { block < length self.now.blocks }
         ensures { result ≡ slice_index self.now.blocks block }
     {
-        self.blocks.items()[block as usize]
+        self.blocks.items()[block]
     }
 
     /// The cost of the edge with a number.
-    pub fn edge(&self, edge: u32) -> u32
+    pub fn edge(&self, edge: usize) -> u32
         requires { edge < length self.now.edges }
         ensures { result ≡ slice_index self.now.edges edge }
     {
-        self.edges.items()[edge as usize]
+        self.edges.items()[edge]
     }
 }
 
@@ -121,7 +122,7 @@ fn fault_at(flaw: Flaw, line: u32) -> CostFault
 fn take_lines(
     alloc: Global,
     version: u32,
-    labels: &[Name],
+    labels: &NameTable,
     edges: &[Edge],
     mut lines: Lines<'_>,
     ledger: &mut Ledger,
@@ -161,35 +162,36 @@ fn take_lines(
 pub fn read_costs(
     alloc: Global,
     text: &[u8],
-    labels: &[Name],
+    labels: &[&[u8]],
     edges: &[Edge],
 ) -> Result<Costs, CostFault>
     requires few { length text.now < 2 ^ 31 }
-    requires different { AllPairs (λ label other. label ≢ other) labels.now }
-    requires within { All (λ edge. (edge.from < length labels.now) × (edge.to < length labels.now))
-        edges.now }
+    requires different { AllPairs (λ label other. label ≢ other) (spelled labels.now) }
+    requires within { All (λ edge. (edge.from < length (spelled labels.now))
+        × (edge.to < length (spelled labels.now))) edges.now }
     requires sorted { AreSorted edges.now }
 
     // What is answered is so.
-    ensures table { IfOk result (Table text.now labels.now edges.now) }
-    ensures fault { IfErr result (IsCause text.now labels.now edges.now) }
+    ensures table { IfOk result (Table text.now (spelled labels.now) edges.now) }
+    ensures fault { IfErr result (IsCause text.now (spelled labels.now) edges.now) }
 
     // What is so is answered.
-    ensures only { (costs : CostLists) → Table text.now labels.now edges.now costs
+    ensures only { (costs : CostLists) → Table text.now (spelled labels.now) edges.now costs
         → MatchResult result (λ read. read ≡ costs) (λ found. found ≡ faults.NoMemory) }
     ensures only_fault { (cause : Fault) → cause ≢ faults.NoMemory
-        → IsCause text.now labels.now edges.now cause
+        → IsCause text.now (spelled labels.now) edges.now cause
         → MatchResult result (λ read. ⊥) (λ found. (found ≡ cause) ⊎ (found ≡ faults.NoMemory)) }
 
     // There is one answer at most.
-    ensures one { (costs others : CostLists) → Table text.now labels.now edges.now costs
-        → Table text.now labels.now edges.now others → costs ≡ others }
+    ensures one { (costs others : CostLists) → Table text.now (spelled labels.now) edges.now costs
+        → Table text.now (spelled labels.now) edges.now others → costs ≡ others }
     ensures one_fault { (cause other : Fault) → cause ≢ faults.NoMemory → other ≢ faults.NoMemory
-        → IsCause text.now labels.now edges.now cause → IsCause text.now labels.now edges.now other
+        → IsCause text.now (spelled labels.now) edges.now cause
+        → IsCause text.now (spelled labels.now) edges.now other
         → cause ≡ other }
     ensures not_both { (costs : CostLists) (cause : Fault)
-        → Table text.now labels.now edges.now costs
-        → IsCause text.now labels.now edges.now cause → cause ≡ faults.NoMemory }
+        → Table text.now (spelled labels.now) edges.now costs
+        → IsCause text.now (spelled labels.now) edges.now cause → cause ≡ faults.NoMemory }
 {
     read_table(alloc, text, labels, edges)
 }
@@ -197,16 +199,16 @@ pub fn read_costs(
 fn read_table(
     alloc: Global,
     text: &[u8],
-    labels: &[Name],
+    labels: &[&[u8]],
     edges: &[Edge],
 ) -> Result<Costs, CostFault>
     requires few { length text.now < 2 ^ 31 }
-    requires different { AllPairs (λ label other. label ≢ other) labels.now }
-    requires within { All (λ edge. (edge.from < length labels.now) × (edge.to < length labels.now))
-        edges.now }
+    requires different { AllPairs (λ label other. label ≢ other) (spelled labels.now) }
+    requires within { All (λ edge. (edge.from < length (spelled labels.now))
+        × (edge.to < length (spelled labels.now))) edges.now }
     requires sorted { AreSorted edges.now }
-    ensures table { IfOk result (Table text.now labels.now edges.now) }
-    ensures fault { IfErr result (IsCause text.now labels.now edges.now) }
+    ensures table { IfOk result (Table text.now (spelled labels.now) edges.now) }
+    ensures fault { IfErr result (IsCause text.now (spelled labels.now) edges.now) }
 {
     let mut lines = text.lines();
     let Some(first) = lines.next() else {
@@ -215,10 +217,11 @@ fn read_table(
     let Some(version) = version_of(first) else {
         return Err(CostFault::BadLine(1));
     };
+    let table = table_of(alloc, labels)?;
     let mut ledger = Ledger::new(alloc, labels.len(), edges.len())?;
-    take_lines(alloc, version, labels, edges, lines, &mut ledger)?;
+    take_lines(alloc, version, &table, edges, lines, &mut ledger)?;
     if let Some(block) = first_missing(&ledger.blocks) {
-        return Err(CostFault::Missing(labels[block].copy(alloc)?));
+        return Err(CostFault::Missing(Name::new(alloc, labels[block])?));
     }
     Ok(Costs {
         blocks: costs_in(alloc, &ledger.blocks)?,

@@ -6,8 +6,9 @@ ghost use Rattle.cost_table.specs.Entries.{Gives, Repeats, IsFlaw, Keeps, HasPla
 use crate::entry::{Entry, Flaw, entry_of};
 use crate::line::read_line;
 use flow_graph::Edge;
+use name_table::NameTable;
 use std::alloc::Global;
-use wx_base::{Name, NoMemory, Sequence};
+use wx_base::{NoMemory, Sequence};
 
 /// The costs that were read so far.
 #[derive(Debug, Drop)]
@@ -67,7 +68,7 @@ impl Ledger {
         &mut self,
         alloc: Global,
         version: u32,
-        labels: &[Name],
+        labels: &NameTable,
         graph: &[Edge],
         line: &[u8],
     ) -> Result<Option<Flaw>, NoMemory>

@@ -13,8 +13,10 @@ mod entry;
 mod ledger;
 mod line;
 mod name_end;
+mod places;
 
 pub use costs::{CostFault, Costs, read_costs};
+pub use places::edge_between;
 
 #[cfg(test)]
 mod tests;

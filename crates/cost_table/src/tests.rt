@@ -1,19 +1,18 @@
 ghost use Rattle.std.specs.Prelude.{◌≢◌, AllPairs, IfOk};
 ghost use Rattle.flow_graph.specs.Sorted.{AreSorted};
+ghost use Rattle.cost_table.specs.Table.{spelled};
 
 use crate::{CostFault, Costs, read_costs};
 use flow_graph::{Edge, Edges, sorted};
 use std::alloc::Global;
 use std::test::Fail;
-use wx_base::{Name, NoMemory};
+use wx_base::NoMemory;
 
-fn labels(alloc: Global) -> Result<[Name; 3], NoMemory>
-    ensures { IfOk result (AllPairs (λ label other. label ≢ other)) }
+// The labels of three blocks.
+fn labels() -> [&'static [u8]; 3]
+    ensures { AllPairs (λ label other. label ≢ other) (spelled result) }
 {
-    let first = Name::new(alloc, b"a")?;
-    let second = Name::new(alloc, b"b")?;
-    let quoted = Name::new(alloc, b"c d")?;
-    Ok([first, second, quoted])
+    [b"a", b"b", b"c d"]
 }
 
 // Edges from the first block to the others.
@@ -29,7 +28,7 @@ fn edges(alloc: Global) -> Result<Edges, NoMemory>
 
 // The table over `a`, `b` and `c d`, with edges from the first to the others.
 fn read(alloc: Global, text: &[u8]) -> Result<Costs, CostFault> {
-    let labels = labels(alloc)?;
+    let labels = labels();
     let edges = edges(alloc)?;
     if text.len() >= 1 << 31
         || edges

@@ -1,6 +1,6 @@
-use Rattle.std.proofs.Common.{◌≡◌, ◌≤◌, ◌-◌, length}
+use Rattle.std.proofs.Common.{◌≤◌, ◌-◌, length}
 use Rattle.cost_table.proofs.HalvingLaws.{AreBefore, AreBehind}
-use Rattle.cost_table.proofs.entry.edge_between.Given as goal
+use Rattle.cost_table.proofs.places.edge_between.Given as goal
 
 abbrev pub invariant-loop-low : goal.invariant-loop-low
 invariant-loop-low l = record {

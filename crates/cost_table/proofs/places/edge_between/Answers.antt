@@ -4,7 +4,7 @@ use Rattle.std.proofs.lemmas.List.Elements.{All-from_get_or}
 use Rattle.flow_graph.specs.declared.edge.Edge.{Edge}
 use Rattle.flow_graph.specs.Sorted.{ComesBefore}
 use Rattle.cost_table.proofs.HalvingLaws.{wanted, is_before, is_behind, is_found, before_middle, behind_middle, none_between}
-use Rattle.cost_table.proofs.entry.edge_between.Goals as goal
+use Rattle.cost_table.proofs.places.edge_between.Goals as goal
 
 abbrev blank : Edge
 blank = record { from = 0; to = 0 }
