@@ -35,7 +35,7 @@ nowhere name names never = by_place (place_of name names) refl
         let at = found_at name names place is in
         absurd (never (subst (λ (n : List ℕ). Contains names n) at.1 (Contains-get_or names place [] at.0)))
 
-labels_apart : (blocks : List Block) → AreDifferent (flat_map all_names blocks) → AreDifferent (map block_label blocks)
+pub labels_apart : (blocks : List Block) → AreDifferent (flat_map all_names blocks) → AreDifferent (map block_label blocks)
 labels_apart [] different = tt
 labels_apart (block ∷ blocks) different =
     (nowhere block.label (map block_label blocks) never, labels_apart blocks (different-right (block_names block) (flat_map all_names blocks) different.1))
@@ -46,7 +46,7 @@ labels_apart (block ∷ blocks) different =
         absent block.label (flat_map all_names blocks) (place_of-append block.label (block_names block) (flat_map all_names blocks) different.0).1
         (in_flat all_names blocks other.0 block.label other.1 (subst (λ (n : List ℕ). Contains (all_names other.0) n) other.2 (in_here other.0.label (block_names other.0))))
 
-one_label : (func : Func) → Rules func → (a b : ℕ) → a < length func.blocks → b < length func.blocks → label_of func a ≡ label_of func b → a ≡ b
+pub one_label : (func : Func) → Rules func → (a b : ℕ) → a < length func.blocks → b < length func.blocks → label_of func a ≡ label_of func b → a ≡ b
 one_label func rules a b a_low b_low same =
     same_place (labels_of func) (labels_apart func.blocks (of_blocks func rules.names)) a b (omega (arith, a_low, length-map func.blocks block_label)) (omega (arith, b_low, length-map func.blocks block_label)) same
 

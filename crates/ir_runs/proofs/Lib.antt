@@ -1,15 +1,15 @@
-mod AnswerLaws
-mod BlockLaws
-mod EntryLaws
+pub mod AnswerLaws
+pub mod BlockLaws
+pub mod EntryLaws
 mod FitLaws
-mod MemberLaws
-mod NamesLaws
+pub mod MemberLaws
+pub mod NamesLaws
 mod OnceLaws
-mod OperandLaws
-mod SiteLaws
-mod StepLaws
-mod TrailLaws
-mod UsedLaws
+pub mod OperandLaws
+pub mod SiteLaws
+pub mod StepLaws
+pub mod TrailLaws
+pub mod UsedLaws
 mod ValueLaws
-mod WalkLaws
-mod WidthLaws
+pub mod WalkLaws
+pub mod WidthLaws

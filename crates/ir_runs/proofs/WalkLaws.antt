@@ -39,7 +39,7 @@ IsEnd (Goes label) = ⊥
 IsEnd (Returns result) = Unit {0}
 IsEnd (Fails why) = Unit {0}
 
-goes_on_not : (step : Step) (label : List ℕ) → IsEnd step → Some step ≡ Some (Goes label) → ⊥
+pub goes_on_not : (step : Step) (label : List ℕ) → IsEnd step → Some step ≡ Some (Goes label) → ⊥
 goes_on_not step label is same = subst IsEnd (same_Some step (Goes label) same) is
 
 module _ (func : Func) (args : List ℕ) where
@@ -51,7 +51,7 @@ module _ (func : Func) (args : List ℕ) where
   lead_at vals (first ∷ []) block next after leads = leads.1.0
   lead_at vals (first ∷ second ∷ done) block next after leads = lead_at vals (second ∷ done) block next after leads.1
 
-  end_at : (vals : Vals) (done : List Block) (block : Block) (last : Step) → EndsWith func args vals (done ++ block ∷ []) last → step vals block ≡ Some last
+  pub end_at : (vals : Vals) (done : List Block) (block : Block) (last : Step) → EndsWith func args vals (done ++ block ∷ []) last → step vals block ≡ Some last
   end_at vals [] block last ends = ends
   end_at vals (first ∷ []) block last ends = ends
   end_at vals (first ∷ second ∷ done) block last ends = end_at vals (second ∷ done) block last ends

@@ -64,7 +64,7 @@ pairs_same (first ∷ values) different name a b in_a in_b = by_cases (pairs_sam
     by_cases rest (inr later) (inl is_b) = absurd (never a (ap value_name is_b) later)
     by_cases rest (inr later_a) (inr later_b) = rest later_a later_b
 
-without_labels : (front : List (List ℕ)) (blocks : List Block) → AreDifferent (front ++ flat_map all_names blocks) → AreDifferent (front ++ flat_map block_names blocks)
+pub without_labels : (front : List (List ℕ)) (blocks : List Block) → AreDifferent (front ++ flat_map all_names blocks) → AreDifferent (front ++ flat_map block_names blocks)
 without_labels front [] different = different
 without_labels front (block ∷ blocks) different =
     let own : AreDifferent (front ++ (block_names block ++ flat_map all_names blocks)) = different-around front (block.label ∷ []) (block_names block ++ flat_map all_names blocks) different in
@@ -82,7 +82,7 @@ blocks_named : (blocks : List Block) → map value_name (flat_map block_values b
 blocks_named [] = refl
 blocks_named (block ∷ blocks) = map-append value_name (block_values block) (flat_map block_values blocks) ∙ ap (λ (names : List (List ℕ)). block_names block ++ names) (blocks_named blocks)
 
-values_named : (func : Func) → map value_name (values_of func) ≡ param_names func ++ flat_map block_names func.blocks
+pub values_named : (func : Func) → map value_name (values_of func) ≡ param_names func ++ flat_map block_names func.blocks
 values_named func = map-append value_name (map param_value func.params) (flat_map block_values func.blocks) ∙ (λ i. params_named func.params i ++ blocks_named func.blocks i)
 
 one_width : (func : Func) → Rules func → (name : List ℕ) (a b : ℕ) → Contains {X = List ℕ × ℕ} (values_of func) (name, a) → Contains {X = List ℕ × ℕ} (values_of func) (name, b) → a ≡ b
@@ -193,7 +193,7 @@ module _ (func : Func) (rules : Rules func) (vals : Vals) where
       by_cases rest (inr later) = rest later
 
   -- an operand that an item uses fits the width that is written
-  operand_fits : (site : Site) → Contains (sites_of func) site → (value : Operand) (width : ℕ) → Contains (parts_of site.what) (Use value width) → FitsOperand width value → ((name : List ℕ) → value ≡ operand.Name name → Fits name) → FitsThere vals value width
+  pub operand_fits : (site : Site) → Contains (sites_of func) site → (value : Operand) (width : ℕ) → Contains (parts_of site.what) (Use value width) → FitsOperand width value → ((name : List ℕ) → value ≡ operand.Name name → Fits name) → FitsThere vals value width
   operand_fits site there (operand.Name name) width used formed named val is =
       let lacks : missing_name func site ≡ None = none_is (missing_name func site) (All-contains (λ (s : Site). lacks_name func s ≡ false) (sites_of func) site rules.named there) in
       let given : Contains (map value_name (values_of func)) name = label_placed (map value_name (values_of func)) name (lacks_none (values_of func) (labels_of func) (parts_of site.what) (Use (operand.Name name) width) lacks used) in

@@ -1,0 +1,11 @@
+mod BodyLaws
+mod CostLaws
+mod ExitLaws
+mod LoopLaws
+mod LowerLaws
+mod OpLaws
+mod PhiLaws
+mod RunLaws
+mod SlotLaws
+mod StartLaws
+mod TurnLaws
