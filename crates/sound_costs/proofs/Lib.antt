@@ -1,0 +1,5 @@
+pub mod CostLaws
+pub mod EdgeLaws
+mod MemberLaws
+mod PlacedLaws
+mod SortedLaws
