@@ -8,7 +8,7 @@ use Rattle.ll_tree.specs.declared.func.Func.{Func}
 use Rattle.ll_reader.specs.FileSpells.{FileSpells, FileStops}
 use Rattle.ll_reader.specs.declared.fault.ReadFault.{ReadFault}
 use Rattle.ll_verifier.specs.Answer.{pinned}
-use Rattle.ll_verifier.specs.Rules.{Rules, Breaks}
+use Rattle.ll_verifier.specs.Rules.{Breaks}
 use Rattle.ll_verifier.specs.declared.fault.VerifyFault.{VerifyFault}
 use Rattle.cost_table.specs.Table.{CostLists}
 use Rattle.cost_table.specs.declared.costs.CostFault.{CostFault}
@@ -19,7 +19,7 @@ use Rattle.witness_report.specs.declared.answer.Answer.TheVariants as answers
 use Rattle.witness_report.specs.declared.answer.Which.TheVariants as which
 use Rattle.wcet_core.specs.Accepted.{StandsUnder, IsSpelled, IsAccepted, IsCosted, costs_of}
 use Rattle.wcet_core.specs.Causes.{IsFault, IsAnswer, OfFunction, Cause}
-use Rattle.wcet_core.specs.Promises.{Says, pinned_answer, Either, IsDecided, Decides}
+use Rattle.wcet_core.specs.Promises.{Says, pinned_answer, Decides}
 use Rattle.wcet_core.specs.declared.limits.TheConstants.{FILE_LIMIT, COSTS_LIMIT}
 use Rattle.wcet_core.proofs.JobLaws.{one_job}
 use Rattle.wcet_core.proofs.FunctionLaws.{Laws, one_answer}

@@ -1,10 +1,7 @@
 -- A function with its costs has one answer to a job.
-use Rattle.std.proofs.Common.{◌≡◌, ◌⊎◌, ◌<◌, ◌≤◌, ℕ, zero, suc, List, [], ◌∷◌, length, get_or, Option, Some, refl, sym, ◌∙◌, ap, subst, inl, inr, arith}
-use Rattle.std.specs.Prelude.{IsSomeAnd}
-use Rattle.std.proofs.lemmas.Bool.{cases_lt, cases_order}
+use Rattle.std.proofs.Common.{◌≡◌, ◌⊎◌, ℕ, List, [], Some, refl, sym, ◌∙◌, ap, subst, inl, inr, arith}
 use Rattle.wx_base.specs.Args.{AreArguments as AreNumbers}
 use Rattle.wx_base.specs.declared.lists.Arg.{Arg}
-use Rattle.wx_base.specs.Files.{Contents, AreLonger}
 use Rattle.ll_tree.specs.declared.func.Func.{Func}
 use Rattle.ll_reader.specs.FileSpells.{FileSpells, FileStops}
 use Rattle.ll_reader.specs.declared.fault.ReadFault.{ReadFault}
@@ -19,7 +16,7 @@ use Rattle.ir_runs.specs.Costs.{LabelCosts}
 use Rattle.ir_runs.specs.Run.{Stuck, EndsOnce}
 use Rattle.ir_runs.specs.Walk.{widths_of}
 use Rattle.ir_runs.specs.declared.undefined.UndefinedCause.{UndefinedCause}
-use Rattle.command_words.specs.Words.{JobWords, Asks}
+use Rattle.command_words.specs.Words.{JobWords}
 use Rattle.command_words.specs.Arguments.{AreArguments, IsFirstBad}
 use Rattle.command_words.specs.declared.job.Command.{Command}
 use Rattle.command_words.specs.declared.job.Command.TheVariants.{Analyse, Run, Brute}
@@ -28,14 +25,10 @@ use Rattle.witness_report.specs.declared.answer.Answer.TheVariants as answers
 use Rattle.witness_report.specs.declared.answer.How.{How}
 use Rattle.witness_report.specs.declared.answer.How.TheVariants as how
 use Rattle.witness_report.specs.declared.answer.PortionBound.{PortionBound}
-use Rattle.witness_report.specs.declared.answer.Which.TheVariants as which
 use Rattle.witness_report.specs.declared.answer.Witness.{Witness}
-use Rattle.wcet_core.specs.Accepted.{StandsUnder, IsSpelled, IsAccepted, IsCosted, costs_of}
-use Rattle.wcet_core.specs.Causes.{IsFault, IsTried, AreTooMany, IsAnswer, OfFunction, Cause}
-use Rattle.wcet_core.specs.Promises.{pinned_answer}
-use Rattle.wcet_core.specs.Worst.{IsRun, IsWorst, numbers_of}
-use Rattle.wcet_core.specs.declared.limits.TheConstants.{FILE_LIMIT, COSTS_LIMIT, TRIAL_BITS, BRUTE_BITS}
-use Rattle.wcet_core.proofs.JobLaws.{AreNarrow, one_job, one_arguments, not_bad, one_place}
+use Rattle.wcet_core.specs.Causes.{IsFault, IsTried, AreTooMany, IsAnswer}
+use Rattle.wcet_core.specs.Worst.{IsRun, numbers_of}
+use Rattle.wcet_core.proofs.JobLaws.{AreNarrow, one_arguments, not_bad, one_place}
 use Rattle.wcet_core.proofs.RunLaws.{one_end, not_both, same_run, one_worst, not_empty}
 
 -- What the crates below say of one answer each.

@@ -1,14 +1,21 @@
 -- Words ask for one job, and give one list of arguments or one place that is bad.
-use Rattle.std.proofs.Common.{◌≡◌, ◌⊎◌, ◌<◌, ◌≤◌, ◌^◌, ℕ, zero, suc, List, [], ◌∷◌, length, map, get_or, refl, sym, ◌∙◌, ap, subst, inl, inr, arith}
+use Rattle.std.proofs.Common.{◌≡◌, ◌<◌, ◌≤◌, ◌^◌, ℕ, zero, suc, List, [], ◌∷◌, length, map, get_or, refl, sym, ◌∙◌, ap, subst, inl, inr, arith}
 use Rattle.std.specs.Fmt.{decimal}
 use Rattle.std.proofs.Math.Bridge.{le_prop}
 use Rattle.std.proofs.lemmas.Bool.{cases_order}
 use Rattle.std.proofs.lemmas.Fmt.{decimal_injective}
+use Rattle.std.specs.List.{All}
 use Rattle.std.proofs.lemmas.List.{length-map}
+use Rattle.std.proofs.lemmas.List.Elements.{All-tail}
 use Rattle.std.proofs.Math.Nat.{pow-le-pow_right}
 use Rattle.wx_base.specs.declared.lists.Arg.{Arg}
+use Rattle.ll_tree.specs.Formed.{IsFormedParam}
+use Rattle.ll_tree.specs.declared.func.Func.{Func}
+use Rattle.ll_tree.specs.declared.func.Param.{Param}
+use Rattle.ll_verifier.specs.Rules.{Rules}
+use Rattle.ir_runs.specs.Walk.{widths_of}
 use Rattle.command_words.specs.Words.{JobWords, Asks, command_word}
-use Rattle.command_words.specs.Arguments.{IsNumber, IsTaken, AreArguments, IsFirstBad}
+use Rattle.command_words.specs.Arguments.{IsNumber, AreArguments, IsFirstBad}
 use Rattle.command_words.specs.declared.job.Command.{Command}
 use Rattle.command_words.specs.declared.job.Command.TheVariants.{Analyse, Run, Brute}
 
@@ -67,6 +74,13 @@ same_args (arg ∷ args) (other ∷ others) widths values =
 abbrev pub AreNarrow : List ℕ → Type 0
 AreNarrow [] = Unit {0}
 AreNarrow (width ∷ widths) = (width ≤ 32) × AreNarrow widths
+
+narrow_params : (params : List Param) → All IsFormedParam params → AreNarrow (map (λ param. param.width) params)
+narrow_params [] formed = tt
+narrow_params (param ∷ params) formed = ((formed 0 param (omega arith)).0.1, narrow_params params (All-tail IsFormedParam param params formed))
+
+pub narrow_widths : (func : Func) → Rules func → AreNarrow (widths_of func)
+narrow_widths func rules = narrow_params func.params rules.formed.params
 
 below_64 : (width value : ℕ) → width ≤ 32 → value < 2 ^ width → value < 2 ^ 64
 below_64 width value narrow fits =

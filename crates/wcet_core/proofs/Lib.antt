@@ -1,3 +1,4 @@
+mod ArgsLaws
 mod DecidedLaws
 mod FunctionLaws
 mod JobLaws

@@ -1,5 +1,5 @@
 -- The costs of a function's own blocks and edges.
-use Rattle.std.proofs.Common.{◌≡◌, ◌<◌, ℕ, List, length, sym, subst}
+use Rattle.std.proofs.Common.{◌<◌, ℕ, List, length, sym, subst}
 use Rattle.std.specs.Prelude.{Contains}
 use Rattle.flow_graph.specs.Paths.{HasEdge}
 use Rattle.flow_graph.specs.declared.edge.Edge.{Edge}

@@ -1,5 +1,5 @@
 -- Arguments have one run or one place at which they are stuck, and a function one worst case.
-use Rattle.std.proofs.Common.{◌≡◌, ◌⊎◌, ◌<◌, ◌≤◌, ℕ, List, [], ◌∷◌, map, refl, sym, ◌∙◌, ap, subst, inl, inr, arith}
+use Rattle.std.proofs.Common.{◌≡◌, ◌⊎◌, ◌≤◌, ℕ, List, [], ◌∷◌, refl, sym, ◌∙◌, ap, subst, inl, inr, arith}
 use Rattle.std.proofs.lemmas.Bool.{cases_order}
 use Rattle.wx_base.specs.Args.{AreArguments, ComesBefore}
 use Rattle.wx_base.specs.declared.lists.Arg.{Arg}

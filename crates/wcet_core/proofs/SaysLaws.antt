@@ -1,20 +1,19 @@
 -- What the steps of a command answer is what the command says.
-use Rattle.std.proofs.Common.{◌≡◌, ◌⊎◌, ⊎_elim, ◌<◌, ◌≤◌, ℕ, List, Option, Result, Ok, Err, refl, sym, ◌∙◌, ap, subst, inl, inr, arith}
+use Rattle.std.proofs.Common.{◌≡◌, ◌≤◌, ℕ, List, Option, Result, Ok, Err, refl, sym, ◌∙◌, ap, subst, inl, inr, arith}
 use Rattle.std.specs.Prelude.{IsErrOf}
 use Rattle.wx_base.specs.Faults.{Rose}
-use Rattle.wx_base.specs.Files.{Contents, FilesView, IsTooLong, LeavesFetch, AreTold, with_end}
+use Rattle.wx_base.specs.Files.{FilesView, IsTooLong, LeavesFetch, with_end}
 use Rattle.wx_base.specs.declared.files.FetchError.{FetchError}
 use Rattle.wx_base.specs.declared.files.FetchError.TheVariants as fetch
 use Rattle.ll_tree.specs.declared.func.Func.{Func}
-use Rattle.ll_verifier.specs.Rules.{Rules}
 use Rattle.cost_table.specs.Table.{CostLists}
 use Rattle.command_words.specs.Words.{JobWords, Asks}
 use Rattle.witness_report.specs.declared.answer.Answer.{Answer}
 use Rattle.witness_report.specs.declared.answer.Answer.TheVariants as answers
 use Rattle.witness_report.specs.declared.answer.Which.TheVariants as which
-use Rattle.wcet_core.specs.Accepted.{StandsUnder, IsSpelled, IsAccepted, IsCosted, costs_of}
-use Rattle.wcet_core.specs.Causes.{IsAnswer, OfFunction, Cause}
-use Rattle.wcet_core.specs.Promises.{Keeps, AsksNext, AsksBoth, IsAfterFile, IsLongTable, Says, Either}
+use Rattle.wcet_core.specs.Accepted.{StandsUnder, IsAccepted, IsCosted, costs_of}
+use Rattle.wcet_core.specs.Causes.{IsAnswer, OfFunction}
+use Rattle.wcet_core.specs.Promises.{Keeps, AsksNext, AsksBoth, IsAfterFile, Says, Either}
 use Rattle.wcet_core.specs.Steps.{unfetched, RefusesText, RefusesTable}
 use Rattle.wcet_core.specs.declared.limits.TheConstants.{FILE_LIMIT, COSTS_LIMIT}
 

@@ -1,5 +1,5 @@
 -- What a trial and a run answer is what a job asks for.
-use Rattle.std.proofs.Common.{◌≡◌, ◌<◌, ◌≤◌, ℕ, List, sym, subst}
+use Rattle.std.proofs.Common.{◌≡◌, ◌<◌, ◌≤◌, ℕ, sym, subst}
 use Rattle.ll_tree.specs.declared.func.Func.{Func}
 use Rattle.ll_verifier.specs.Sound.{bits_of}
 use Rattle.ir_runs.specs.Costs.{LabelCosts}

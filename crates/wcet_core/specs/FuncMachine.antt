@@ -13,3 +13,8 @@ pub record CostedFunc : Type 0 where
 pub record IsOwn (it : CostedFunc) : Type 0 where
   pub rules : Rules it.func
   pub costs : AreCostsOf it.func it.costs
+
+-- A function that keeps all rules, its own costs, and a runner of that function.
+pub record IsReady (func : Func) (it : CostedFunc) : Type 0 where
+  pub same : func ≡ it.func
+  pub own : IsOwn it

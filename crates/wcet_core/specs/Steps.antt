@@ -7,6 +7,8 @@ use Rattle.ll_tree.specs.declared.func.Func.{Func}
 use Rattle.ll_reader.specs.FileSpells.{FileSpells, FileStops}
 use Rattle.ll_verifier.specs.Rules.{Breaks}
 use Rattle.ll_verifier.specs.Sound.{bits_of}
+use Rattle.ll_verifier.specs.declared.fault.VerifyFault.{VerifyFault}
+use Rattle.ll_verifier.specs.declared.fault.VerifyFault.TheVariants as faults
 use Rattle.ir_runs.specs.Costs.{LabelCosts, Empty}
 use Rattle.ir_runs.specs.Run.{Stuck}
 use Rattle.ir_runs.specs.Walk.{widths_of}
@@ -25,6 +27,10 @@ abbrev pub unfetched : FetchError → Which → Answer
 unfetched fetch.Failed of = answers.FetchFault of
 unfetched fetch.TooLong of = answers.TooLong of
 unfetched fetch.NoMemory of = answers.NoMemory
+
+abbrev pub rejection : VerifyFault → Answer
+rejection faults.NoMemory = answers.NoMemory
+rejection broken = answers.Verify broken
 
 -- why a text gives no function that keeps all rules
 abbrev pub RefusesText : List ℕ → List ℕ → Answer → Type 0

@@ -1,10 +1,9 @@
-ghost use Rattle.std.specs.Prelude.{IfOk, IfErr};
-ghost use Rattle.ll_verifier.specs.Sound.{IsSound};
+ghost use Rattle.std.specs.Prelude.{◌≡◌, ◌<◌, ◌^◌, length, IfOk, IfErr};
 ghost use Rattle.ll_reader.specs.FileSpells.{FileSpells};
 ghost use Rattle.ll_verifier.specs.Rules.{Rules};
 ghost use Rattle.sound_costs.specs.Costs.{AreCostsOf, IsTableOf};
 ghost use Rattle.wcet_core.specs.Promises.{Keeps, Says};
-ghost use Rattle.wcet_core.specs.Steps.{RefusesText, RefusesTable, unfetched};
+ghost use Rattle.wcet_core.specs.Steps.{RefusesText, RefusesTable, unfetched, rejection};
 
 use crate::limits::{COSTS_LIMIT, FILE_LIMIT};
 use crate::work::work;

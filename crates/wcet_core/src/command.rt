@@ -1,4 +1,4 @@
-ghost use Rattle.std.specs.Prelude.{◌≡◌, ◌↔◌, ⊥};
+ghost use Rattle.std.specs.Prelude.{◌≡◌};
 ghost use Rattle.wx_base.specs.Faults.{Rose};
 ghost use Rattle.witness_report.specs.Report.{answer_text};
 ghost use Rattle.witness_report.specs.declared.answer.Answer.TheVariants as answers;

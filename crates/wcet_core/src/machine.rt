@@ -21,14 +21,13 @@ pub(crate) struct FuncMachine<'a> {
 }
 
 impl<'a> Model for FuncMachine<'a> {
-    ghost use Rattle.std.specs.Prelude.{◌≡◌};
-    ghost use Rattle.wcet_core.specs.FuncMachine.{CostedFunc};
+    ghost use Rattle.wcet_core.specs.FuncMachine.{CostedFunc, IsReady};
 
     ghost Value = { CostedFunc };
 
     ghost view = { λ machine. machine.priced };
 
-    ghost invariant = { λ machine. machine.runner.func ≡ machine.priced.func };
+    ghost invariant = { λ machine. IsReady machine.runner.func machine.priced };
 }
 
 impl<'a> FuncMachine<'a> {

@@ -1,5 +1,6 @@
 ghost use Rattle.std.specs.Prelude.{◌≡◌};
 ghost use Rattle.sound_costs.specs.Costs.{AreCostsOf, costs_by_label};
+ghost use Rattle.wcet_core.specs.FuncMachine.{IsOwn};
 
 use ir_runner::PathCosts;
 use ll_links::BlockId;
@@ -8,7 +9,7 @@ use sound_costs::Costs;
 use std::marker::Model;
 
 /// A function with what its blocks and edges cost, as a runner takes the costs.
-#[derive(Clone, Copy)]
+#[derive(Drop)]
 pub(crate) struct Priced<'a> {
     sound: &'a Sound,
     costs: &'a Costs,
@@ -27,7 +28,8 @@ impl<'a> Model for Priced<'a> {
 impl<'a> Priced<'a> {
     pub(crate) fn new(sound: &'a Sound, costs: &'a Costs) -> Priced<'a>
         requires { AreCostsOf sound.now.func costs.now }
-        ensures { result ≡ record { func = sound.now.func; costs = costs.now } }
+        ensures is { result ≡ record { func = sound.now.func; costs = costs.now } }
+        ensures own { IsOwn result }
     {
         let _func = sound.func();
         Priced { sound, costs }

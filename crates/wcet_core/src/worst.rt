@@ -1,6 +1,7 @@
 ghost use Rattle.std.specs.Prelude.{◌≡◌, ◌<◌, ℕ, map, IfOk};
 ghost use Rattle.wx_base.specs.Args.{AreArguments};
-ghost use Rattle.ir_runs.specs.Costs.{LabelCosts, Reached};
+ghost use Rattle.ll_verifier.specs.Rules.{Rules};
+ghost use Rattle.ir_runs.specs.Costs.{Reached};
 ghost use Rattle.ir_runs.specs.Walk as walks;
 ghost use Rattle.sound_costs.specs.Costs.{AreCostsOf, costs_by_label};
 ghost use Rattle.wcet_core.specs.Steps.{SaysOfTrial};
@@ -31,6 +32,7 @@ pub(crate) fn worst(
     ensures { let by_label = costs_by_label sound.now.func costs.now in
         IfOk result (SaysOfTrial sound.now.func by_label most how) }
 {
+    each_list_ends_once();
     let bits = sound.bits();
     if bits > most {
         return Ok(Answer::TooWide { bits });
@@ -81,6 +83,7 @@ fn witness(
     sound: &Sound,
     costs: &Costs,
 ) -> Result<Witness, NoMemory>
+    requires rules { Rules sound.now.func }
     requires costs { AreCostsOf sound.now.func costs.now }
     requires widths { map (λ arg. arg.width) args ≡ walks.widths_of sound.now.func }
     requires reached { (n : ℕ) × Reached sound.now.func
