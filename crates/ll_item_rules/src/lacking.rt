@@ -8,7 +8,8 @@ use crate::{SiteTest, ValueTable};
 use ll_items::{PartRef, SiteRef};
 use ll_tree::Operand;
 use name_table::NameTable;
-use wx_base::Name;
+use std::alloc::Global;
+use wx_base::{Name, NoMemory};
 
 /// The rule that each operand names a value and each label a block.
 #[derive(Clone, Copy)]
@@ -20,8 +21,8 @@ pub struct Lacking<'t, 'a> {
 impl<'t, 'a> SiteTest for Lacking<'t, 'a> {
     ghost fails = { λ test site. is_some (spec.lacking_name test.values.now test.labels.now (parts_of site.what)) };
 
-    fn fails(&self, _site: SiteRef, parts: &[PartRef]) -> bool {
-        lacking_name(self.values, self.labels, parts).is_some()
+    fn fails(&self, _alloc: Global, _site: SiteRef, parts: &[PartRef]) -> Result<bool, NoMemory> {
+        Ok(lacking_name(self.values, self.labels, parts).is_some())
     }
 }
 

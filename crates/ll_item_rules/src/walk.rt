@@ -15,10 +15,10 @@ pub trait SiteTest {
 
     ghost fails: { Self → Site → Bool };
 
-    /// Whether an item with these operands and labels breaks the rule.
-    fn fails(&self, site: SiteRef, parts: &[PartRef]) -> bool
+    /// Whether an item with these operands and labels breaks the rule. A test may take memory.
+    fn fails(&self, alloc: Global, site: SiteRef, parts: &[PartRef]) -> Result<bool, NoMemory>
         requires { map part_of parts.now ≡ parts_of (item_of site.what) }
-        ensures { result ≡ fails self.now (site_of site.entry) };
+        ensures { IfOk result (λ answer. answer ≡ fails self.now (site_of site.entry)) };
 }
 
 /// The first item that breaks a rule, `None` exactly where none does.
@@ -35,7 +35,7 @@ pub fn first_site<'a, T: SiteTest>(
     for site in items {
         parts.clear();
         push_parts(&mut parts, site.what)?;
-        if test.fails(*site, parts.items()) {
+        if test.fails(alloc, *site, parts.items())? {
             return Ok(Some(*site));
         }
     }

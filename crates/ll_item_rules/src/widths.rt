@@ -7,6 +7,8 @@ ghost use Rattle.ll_item_rules.specs.Widths as spec;
 use crate::{SiteTest, ValueTable};
 use ll_items::{ItemRef, PartRef, SiteRef};
 use ll_tree::{Case, CastKind, End, Op, Operand, Ret};
+use std::alloc::Global;
+use wx_base::NoMemory;
 
 /// The rule that each value has the width that is written at its use, a returned value that of the
 /// function's type, a case that of its switch, and that a conversion widens or narrows as it says.
@@ -19,8 +21,8 @@ pub struct TypeDiffers<'t, 'a> {
 impl<'t, 'a> SiteTest for TypeDiffers<'t, 'a> {
     ghost fails = { λ test site. spec.type_differs test.values.now test.ret site.what };
 
-    fn fails(&self, site: SiteRef, parts: &[PartRef]) -> bool {
-        some_part_differs(self.values, parts) || item_differs(self.ret, site.what)
+    fn fails(&self, _alloc: Global, site: SiteRef, parts: &[PartRef]) -> Result<bool, NoMemory> {
+        Ok(some_part_differs(self.values, parts) || item_differs(self.ret, site.what))
     }
 }
 

@@ -1,32 +1,110 @@
-ghost use Rattle.std.specs.Prelude.{◌≡◌, ◌≤◌, map, length, slice_index_or, [], if◌then◌else◌};
+ghost use Rattle.std.specs.Prelude.{◌≡◌, ◌≤◌, map, length, slice_index_or, [], if◌then◌else◌, IfOk, IsTrue, true, false};
 ghost use Rattle.std.specs.List.{list_all};
 ghost use Rattle.ll_rules.specs.Items.{targets_of};
+ghost use Rattle.name_table.specs.Names.{AreDifferent};
 ghost use Rattle.ll_phi_rules.specs.Phis as spec;
 
+use crate::counts::{count_froms, count_targets, is_column};
+use crate::firsts::operands_agree;
 use ll_item_rules::SiteTest;
 use ll_items::{ItemRef, PartRef, SiteRef};
 use ll_tree::{Block, Case, End, Operand, PhiEntry};
+use name_table::NameTable;
+use std::alloc::Global;
+use std::marker::Model;
+use wx_base::{NoMemory, Sequence};
 
 /// The rule that a phi has as many entries for a block as the block has targets that are the phi's block,
-/// and one operand for it. The work of a phi grows with its entries for each block, and with the square of
-/// its entries.
-#[derive(Clone, Copy)]
-pub struct PhiEntriesDiffer<'t> {
-    pub blocks: &'t [Block],
+/// and one operand for it. Contracts see the blocks.
+///
+/// A phi that keeps the rule is seen to do so by the places of its entries' labels: by a look-up for each
+/// entry, and a number for each block. Only where that isn't seen are labels compared.
+#[derive(Drop)]
+pub struct PhiEntriesDiffer<'t, 'a> {
+    blocks: &'t [Block],
+    labels: &'t NameTable<'a>,
+    // How often the targets of each block name each label.
+    targets: Sequence<Sequence<u64>>,
 }
 
-impl<'t> SiteTest for PhiEntriesDiffer<'t> {
-    ghost fails = { λ test site. spec.differ_at test.blocks.now site };
+impl<'t, 'a> Model for PhiEntriesDiffer<'t, 'a> {
+    ghost use Rattle.std.specs.Prelude.{List};
+    ghost use Rattle.ll_tree.specs.declared.block.Block.{Block as BlockView};
+    ghost use Rattle.ll_phi_rules.specs.Counts.{KnowsTargets};
 
-    fn fails(&self, site: SiteRef, _parts: &[PartRef]) -> bool {
+    ghost Value = { List BlockView };
+
+    ghost view = { λ test. test.blocks.now };
+
+    ghost invariant = { λ test. KnowsTargets test.blocks.now test.labels.now test.targets };
+}
+
+impl<'t, 'a> SiteTest for PhiEntriesDiffer<'t, 'a> {
+    ghost fails = { λ test site. spec.differ_at test site };
+
+    fn fails(&self, alloc: Global, site: SiteRef, _parts: &[PartRef]) -> Result<bool, NoMemory> {
         match site.what {
-            ItemRef::Phi(phi) => entries_differ(
-                self.blocks,
-                label_at(self.blocks, site.block),
-                phi.entries.items(),
-            ),
-            ItemRef::Instr(_) | ItemRef::End(_) => false,
+            ItemRef::Phi(phi) => self.differ(alloc, site.block, phi.entries.items()),
+            ItemRef::Instr(_) | ItemRef::End(_) => Ok(false),
         }
+    }
+}
+
+impl<'t, 'a> PhiEntriesDiffer<'t, 'a> {
+    /// The rule over blocks with different labels, and the table of the labels.
+    pub fn new(
+        alloc: Global,
+        blocks: &'t [Block],
+        labels: &'t NameTable<'a>,
+    ) -> Result<PhiEntriesDiffer<'t, 'a>, NoMemory>
+        requires labels { labels.now ≡ map (λ block. block.label) blocks.now }
+        requires different { AreDifferent labels.now }
+        ensures { IfOk result (λ test. test ≡ blocks.now) }
+    {
+        let targets = count_targets(alloc, labels, blocks)?;
+        Ok(PhiEntriesDiffer {
+            blocks,
+            labels,
+            targets,
+        })
+    }
+
+    fn differ(&self, alloc: Global, block: u32, entries: &[PhiEntry]) -> Result<bool, NoMemory>
+        ensures { IfOk result (λ differ. differ ≡ spec.entries_differ self.now
+            (slice_index_or (map (λ block. block.label) self.now) block []) entries.now) }
+    {
+        if self.is_kept(alloc, block, entries)? {
+            return Ok(false);
+        }
+        Ok(entries_differ(self.blocks, label_at(self.blocks, block), entries))
+    }
+
+    // Whether entries are seen to keep the rule by the places of their labels.
+    fn is_kept(&self, alloc: Global, block: u32, entries: &[PhiEntry]) -> Result<bool, NoMemory>
+        ensures { IfOk result (λ kept. IsTrue kept → spec.entries_differ self.now
+            (slice_index_or (map (λ block. block.label) self.now) block []) entries.now ≡ false) }
+    {
+        if !self.counts_agree(alloc, block, entries)? {
+            return Ok(false);
+        }
+        operands_agree(alloc, self.labels, entries)
+    }
+
+    fn counts_agree(
+        &self,
+        alloc: Global,
+        block: u32,
+        entries: &[PhiEntry],
+    ) -> Result<bool, NoMemory>
+        ensures { IfOk result (λ agree. IsTrue agree → list_all (spec.has_entries
+            (slice_index_or (map (λ block. block.label) self.now) block [])
+            entries.now) self.now ≡ true) }
+    {
+        if block as usize >= self.blocks.len() {
+            return Ok(false);
+        }
+        let counts = count_froms(alloc, self.labels, entries)?;
+        Ok(is_column(self.targets.items(), block as usize, counts.items()))
     }
 }
 
@@ -118,7 +196,7 @@ fn agrees(entry: &PhiEntry, others: &[PhiEntry]) -> bool
     })
 }
 
-fn same_operand(operand: &Operand, other: &Operand) -> bool
+pub fn same_operand(operand: &Operand, other: &Operand) -> bool
     ensures { result ≡ spec.same_operand operand.now other.now }
 {
     match (operand, other) {

@@ -3,6 +3,7 @@ ghost use Rattle.ll_rules.specs.Limits.{KeepsLimits};
 ghost use Rattle.ll_items.specs.Sites.{sites_of};
 ghost use Rattle.ll_item_rules.specs.First.{NoneFails};
 ghost use Rattle.ll_item_rules.specs.Constants.{is_not_linear, has_bad_divisor};
+ghost use Rattle.ll_phi_rules.specs.Phis.{differ_at};
 ghost use Rattle.ll_verifier.specs.Rules as rules;
 ghost use Rattle.ll_verifier.specs.Sound.{IsChecked};
 ghost use Rattle.ll_verifier.specs.Tables.{AreTables};
@@ -87,11 +88,8 @@ fn check_sites(
     if let Some(at) = first_spot(alloc, func, &tables.sites, &BadDivisor)? {
         return Ok(Err(VerifyFault::BadDivisor { at }));
     }
-    let phis = PhiEntriesDiffer {
-        blocks: func.blocks.items(),
-    };
-    if let Some(at) = first_spot(alloc, func, &tables.sites, &phis)? {
-        return Ok(Err(VerifyFault::PhiEntries { at }));
+    if let Some(fault) = other_entries(alloc, func, tables)? {
+        return Ok(Err(fault));
     }
     let links = resolve(alloc, func, &tables.sites, &tables.values, &tables.labels)?;
     check_paths(alloc, func, tables, links)
@@ -150,9 +148,26 @@ fn repeated_number(
     let Some(site) = first_site(alloc, &tables.sites, &RepeatedCase)? else {
         return Ok(None);
     };
-    let Some(value) = repeated_case(site.what) else {
+    let Some(value) = repeated_case(alloc, site.what)? else {
         return Ok(None);
     };
     let at = spot(alloc, func, site)?;
     Ok(Some(VerifyFault::DuplicateCase { at, value }))
+}
+
+fn other_entries(
+    alloc: Global,
+    func: &Func,
+    tables: &Tables,
+) -> Result<Option<VerifyFault>, NoMemory>
+    requires divides { rules.Divides func.now }
+    requires tables { AreTables func.now tables.now }
+    ensures { IfOk result (λ found. MatchOption found
+        (NoneFails (differ_at func.now.blocks) (sites_of func.now)) (rules.Breaks func.now)) }
+{
+    let test = PhiEntriesDiffer::new(alloc, func.blocks.items(), &tables.labels)?;
+    match first_spot(alloc, func, &tables.sites, &test)? {
+        Some(at) => Ok(Some(VerifyFault::PhiEntries { at })),
+        None => Ok(None),
+    }
 }

@@ -3,8 +3,10 @@ use Rattle.ll_item_rules.specs.Cases as spec
 use Rattle.ll_item_rules.proofs.CaseLaws.{old_number, new_number}
 use Rattle.ll_item_rules.proofs.cases.repeated.Goals as goal
 
-pub returns-then-has_value : goal.returns-then-has_value
-returns-then-has_value c = old_number c.args.cases.now c.loop-at.at c.index-cases-at.result c.loop-at-test.true c.index-cases-at.is c.has_value.result c.split_at.result.0.now c.split_at.ensures.front c.has_value.ensures (spec.repeated (map (λ case. case.value) c.args.cases.now)) c.loop-at.invariant c.if-has_value.true
+pub returns-then-not-branch : goal.returns-then-not-branch
+returns-then-not-branch c = old_number c.args.cases.now c.loop-case.case-index c.case-item.result c.loop-case-test.true c.case-item.is c.loop-case.seen.keys c.loop-case.invariant.seen (spec.repeated (map (λ case. case.value) c.args.cases.now)) c.loop-case.invariant.rest c.in_ok-insert.field-0 c.in_ok-insert.ensures.added c.if-not-branch.true
 
-pub loop-at-preserved : goal.loop-at-preserved
-loop-at-preserved c = new_number c.args.cases.now c.loop-at.at c.index-cases-at.result c.loop-at-test.true c.index-cases-at.is c.has_value.result c.split_at.result.0.now c.split_at.ensures.front c.has_value.ensures (spec.repeated (map (λ case. case.value) c.args.cases.now)) c.loop-at.invariant c.if-has_value.false
+pub loop-case-preserved : goal.loop-case-preserved
+loop-case-preserved c =
+    let next = new_number c.args.cases.now c.loop-case.case-index c.case-item.result c.loop-case-test.true c.case-item.is c.loop-case.seen.keys c.loop-case.invariant.seen (spec.repeated (map (λ case. case.value) c.args.cases.now)) c.loop-case.invariant.rest c.in_ok-insert.field-0 c.insert.new.self.keys c.in_ok-insert.ensures.added c.if-not-branch.false c.in_ok-insert.ensures.keys in
+    record { seen = next.0; rest = next.1 }

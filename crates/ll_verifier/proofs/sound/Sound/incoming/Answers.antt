@@ -1,4 +1,4 @@
-use Rattle.std.proofs.Common.{◌≡◌, ◌<◌, length, refl, ◌∙◌, arith}
+use Rattle.std.proofs.Common.{◌<◌, length, refl, ◌∙◌, arith}
 use Rattle.ll_rules.specs.Items.{labels_of, values_of, names_of}
 use Rattle.name_table.specs.Names.{AreDifferent}
 use Rattle.ll_links.specs.Items.{item_at}
