@@ -4,6 +4,3 @@
 mod graph;
 
 pub use graph::graph_of;
-
-#[cfg(test)]
-mod tests;

@@ -12,6 +12,3 @@ pub use laws::items_of_a_block;
 pub use link::{BlockId, Links, Position, Source, ValueId};
 pub use numbers::{block_of, result_of, source_of};
 pub use table::{LinkTable, resolve};
-
-#[cfg(test)]
-mod tests;

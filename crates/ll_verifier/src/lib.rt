@@ -17,6 +17,3 @@ pub use laws::{one_answer, parameters_first};
 pub use order::PositionEdge;
 pub use paths::Checked;
 pub use sound::{Sound, verify};
-
-#[cfg(test)]
-mod tests;

@@ -6,6 +6,3 @@ mod table;
 
 pub use repeat::{first_repeat, table_of};
 pub use table::NameTable;
-
-#[cfg(test)]
-mod tests;

@@ -1,75 +1,66 @@
-use ll_reader::read;
-use ll_verifier::{Spot, VerifyFault, check};
+//! What is told of a fault.
+
+use ll_verifier::{Spot, VerifyFault};
 use std::alloc::Global;
-use std::fmt::Write;
-use std::test::Fail;
-use wx_base::Name;
+use wx_base::{Name, NoMemory};
 
-fn tell(told: &mut String, rule: &str, at: &Spot) -> Result<(), Fail> {
-    let block = std::str::from_utf8(at.block.bytes())?;
-    let item = at.item;
-    write!(told, "{rule} {block} {item}")?;
-    Ok(())
+pub fn no_row(alloc: Global) -> Result<String, NoMemory> {
+    Ok(String::from_str(alloc, "no row")?)
 }
 
-fn tell_named(told: &mut String, rule: &str, name: &Name) -> Result<(), Fail> {
-    let name = std::str::from_utf8(name.bytes())?;
-    write!(told, "{rule} {name}")?;
-    Ok(())
-}
-
-fn tell_path(told: &mut String, word: &str, labels: &[Name]) -> Result<(), Fail> {
-    write!(told, "{word}")?;
-    for label in labels {
-        tell_named(told, "", label)?;
-    }
-    Ok(())
-}
-
-fn tell_fault(told: &mut String, fault: &VerifyFault) -> Result<(), Fail> {
+/// The rule that is broken, with its names and its place.
+pub fn fault_text(alloc: Global, fault: &VerifyFault) -> Result<String, NoMemory> {
     match fault {
-        VerifyFault::TooMany(_) => write!(told, "too-many")?,
-        VerifyFault::NameTwice { name } => tell_named(told, "name-twice", name)?,
-        VerifyFault::NoSuchName { name, at } => {
-            tell_named(told, "no-such-name", name)?;
-            tell(told, "", at)?;
-        }
-        VerifyFault::TypeDiffers { at } => tell(told, "type-differs", at)?,
-        VerifyFault::DuplicateCase { at, value } => {
-            write!(told, "duplicate-case {value}")?;
-            tell(told, "", at)?;
-        }
-        VerifyFault::NotLinear { at } => tell(told, "not-linear", at)?,
-        VerifyFault::BadDivisor { at } => tell(told, "bad-divisor", at)?,
-        VerifyFault::PhiEntries { at } => tell(told, "phi-entries", at)?,
-        VerifyFault::Loop { cycle } => tell_path(told, "loop", cycle.items())?,
-        VerifyFault::Unreached { block } => tell_named(told, "unreached", block)?,
+        VerifyFault::TooMany(_) => Ok(String::from_str(alloc, "too-many")?),
+        VerifyFault::NameTwice { name } => named(alloc, "name-twice", name),
+        VerifyFault::NoSuchName { name, at } => named_at(alloc, "no-such-name", name, at),
+        VerifyFault::TypeDiffers { at } => placed(alloc, "type-differs", at),
+        VerifyFault::DuplicateCase { at, value } => case_text(alloc, *value, at),
+        VerifyFault::NotLinear { at } => placed(alloc, "not-linear", at),
+        VerifyFault::BadDivisor { at } => placed(alloc, "bad-divisor", at),
+        VerifyFault::PhiEntries { at } => placed(alloc, "phi-entries", at),
+        VerifyFault::Loop { cycle } => listed(alloc, "loop", cycle.items()),
+        VerifyFault::Unreached { block } => named(alloc, "unreached", block),
         VerifyFault::NotDefined { at, name, path } => {
-            tell_named(told, "not-defined", name)?;
-            tell(told, "", at)?;
-            tell_path(told, " on", path.items())?;
+            let line = named_at(alloc, "not-defined", name, at)?;
+            listed(
+                alloc,
+                format!(in alloc; "{line} on")?.as_str(),
+                path.items(),
+            )
         }
-        VerifyFault::NoMemory => write!(told, "no memory")?,
+        VerifyFault::NoMemory => Err(NoMemory),
     }
-    Ok(())
 }
 
-/// What the verifier says of the function `f` of a text: the rule that is broken, with its names and its place, or `kept`.
-pub fn told(alloc: Global, text: &[u8]) -> Result<String, Fail> {
-    let mut told = String::new(alloc);
-    if text.len() > 1 << 20 {
-        return Ok(told);
+/// The bytes of a name, as text.
+pub fn text_of(name: &Name) -> &str {
+    std::str::from_utf8(name.bytes()).unwrap_or("?")
+}
+
+pub fn named(alloc: Global, rule: &str, name: &Name) -> Result<String, NoMemory> {
+    Ok(format!(in alloc; "{rule} {}", text_of(name))?)
+}
+
+fn placed(alloc: Global, rule: &str, at: &Spot) -> Result<String, NoMemory> {
+    Ok(format!(in alloc; "{rule} {} {}", text_of(&at.block), at.item)?)
+}
+
+fn case_text(alloc: Global, value: u32, at: &Spot) -> Result<String, NoMemory> {
+    let rule = format!(in alloc; "duplicate-case {value}")?;
+    placed(alloc, rule.as_str(), at)
+}
+
+fn named_at(alloc: Global, rule: &str, name: &Name, at: &Spot) -> Result<String, NoMemory> {
+    let line = named(alloc, rule, name)?;
+    placed(alloc, line.as_str(), at)
+}
+
+fn listed(alloc: Global, word: &str, labels: &[Name]) -> Result<String, NoMemory> {
+    let mut line = String::from_str(alloc, word)?;
+    for label in labels {
+        line.push(' ')?;
+        line.push_str(text_of(label))?;
     }
-    let Ok(func) = read(alloc, text, &Name::new(alloc, b"f")?) else {
-        write!(told, "not read")?;
-        return Ok(told);
-    };
-    if func.blocks.len() < 1 {
-        return Ok(told);
-    }
-    match check(alloc, &func)? {
-        Ok(_) => write!(told, "kept")?,
-        Err(fault) => tell_fault(&mut told, &fault)?,
-    }
-    Ok(told)
+    Ok(line)
 }
