@@ -221,8 +221,10 @@ fn exit_of(alloc: Global, sound: &Sound, at: BlockId, block: &Block) -> Result<E
 fn end_links<'a>(sound: &'a Sound, at: BlockId, block: &Block) -> Links<'a>
     requires at { IsAt sound.now.func at.0 block.now }
     requires few { length block.now.phis + length block.now.body < 2 ^ 32 }
-    ensures sources { result.sources.now ≡ map (spec.source_code sound.now.func) (end_operands block.now.end) }
-    ensures targets { spec.places result.blocks.now ≡ map (spec.target sound.now.func) (targets_of block.now.end) }
+    ensures sources { result.sources.now
+        ≡ map (spec.source_code sound.now.func) (end_operands block.now.end) }
+    ensures targets { spec.places result.blocks.now
+        ≡ map (spec.target sound.now.func) (targets_of block.now.end) }
     ensures some { 0 < length sound.now.func.blocks }
 {
     let items = block.phis.len() as u32 + block.body.len() as u32;
@@ -248,7 +250,8 @@ fn cases_of(
     cases: &[Case],
 ) -> Result<Sequence<CaseCode>, NoMemory>
     requires from { from.0 < length sound.now.func.blocks }
-    requires targets { drop 1 (spec.places targets.now) ≡ map (λ case. spec.target sound.now.func case.to) cases.now }
+    requires targets { drop 1 (spec.places targets.now)
+        ≡ map (λ case. spec.target sound.now.func case.to) cases.now }
     ensures { let func = sound.now.func in
         IfOk result (λ list. list ≡ map (spec.case_code func (label_of func from.0)) cases.now) }
 {

@@ -65,7 +65,8 @@ impl<'a> Runner<'a> {
     pub fn run<C: PathCosts>(&mut self, args: &[u32], costs: &C) -> RunEnd
         requires arguments { AreArguments (widths_of self.old.func) args.now }
         requires costs { C.func costs.now ≡ self.old.func }
-        ensures answer { IsAnswer self.old.func (C.costs costs.now) args.now (path_labels self.new) result }
+        ensures answer { IsAnswer self.old.func (C.costs costs.now) args.now
+            (path_labels self.new) result }
         ensures func { self.new.func ≡ self.old.func }
         ensures places { All (λ block. block.0 < length self.old.func.blocks) self.new.path }
     {

@@ -16,7 +16,9 @@ pub fn graph_of(alloc: Global, func: &Func, labels: &NameTable) -> Result<Edges,
     requires blocks { length func.now.blocks < 2 ^ 32 }
     requires labels { length labels.now < 2 ^ 32 }
     ensures graph { IfOk result (λ graph. graph ≡ spec.edges_in labels.now 0 func.now.blocks) }
-    ensures edges { IfOk result (λ graph. (from to : ℕ) → HasEdge graph from to ↔ spec.LeadsTo labels.now func.now.blocks from to) }
+    ensures edges { IfOk result
+        (λ graph. (from to : ℕ) → HasEdge graph from to
+        ↔ spec.LeadsTo labels.now func.now.blocks from to) }
 {
     let mut graph = Edges::new(alloc);
     let mut parts = Parts::new(alloc);
@@ -36,7 +38,8 @@ fn push_edges(
     parts: &[PartRef],
 ) -> Result<(), NoMemory>
     requires { length labels.now < 2 ^ 32 }
-    ensures { OnOk result (graph.new ≡ graph.old ++ spec.edges_from labels.now from (map part_of parts.now)) }
+    ensures { OnOk result
+        (graph.new ≡ graph.old ++ spec.edges_from labels.now from (map part_of parts.now)) }
 {
     for part in parts {
         push_edge(graph, labels, from, *part)?;
@@ -51,7 +54,8 @@ fn push_edge(
     part: PartRef,
 ) -> Result<(), NoMemory>
     requires { length labels.now < 2 ^ 32 }
-    ensures { OnOk result (graph.new ≡ graph.old ++ spec.edge_of labels.now from (part_of part.entry)) }
+    ensures { OnOk result
+        (graph.new ≡ graph.old ++ spec.edge_of labels.now from (part_of part.entry)) }
 {
     match part {
         PartRef::Use { .. } => Ok(()),

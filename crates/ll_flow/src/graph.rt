@@ -64,7 +64,8 @@ fn label_at(alloc: Global, func: &Func, place: u32) -> Result<Name, NoMemory>
 pub fn first_unreached(alloc: Global, func: &Func, flow: &Flow) -> Result<Option<Name>, NoMemory>
     requires flow { IsFlowOf func.now flow.now }
     requires different { AreDifferent (labels_of func.now) }
-    ensures { IfOk result (λ found. MatchOption found (AllReached func.now) (IsFirstUnreached func.now)) }
+    ensures { IfOk result
+        (λ found. MatchOption found (AllReached func.now) (IsFirstUnreached func.now)) }
 {
     match flow.unreached() {
         Some(place) => Ok(Some(label_at(alloc, func, place)?)),

@@ -39,7 +39,9 @@ fn push_params(homes: &mut Sequence<Home>, params: &[Param]) -> Result<(), NoMem
 }
 
 fn push_sites(homes: &mut Sequence<Home>, sites: &[SiteRef]) -> Result<(), NoMemory>
-    ensures { OnOk result (homes.new ≡ homes.old ++ map (λ home. home.1) (flat_map spec.site_homes (map site_of sites.now))) }
+    ensures { OnOk result
+        (homes.new ≡ homes.old
+        ++ map (λ home. home.1) (flat_map spec.site_homes (map site_of sites.now))) }
 {
     for site in sites {
         push_site(homes, *site)?;
@@ -48,7 +50,8 @@ fn push_sites(homes: &mut Sequence<Home>, sites: &[SiteRef]) -> Result<(), NoMem
 }
 
 fn push_site(homes: &mut Sequence<Home>, site: SiteRef) -> Result<(), NoMemory>
-    ensures { OnOk result (homes.new ≡ homes.old ++ map (λ home. home.1) (spec.site_homes (site_of site.entry))) }
+    ensures { OnOk result
+        (homes.new ≡ homes.old ++ map (λ home. home.1) (spec.site_homes (site_of site.entry))) }
 {
     let home = Home::At {
         block: site.block,
@@ -62,7 +65,9 @@ fn push_site(homes: &mut Sequence<Home>, site: SiteRef) -> Result<(), NoMemory>
 }
 
 fn push_result(homes: &mut Sequence<Home>, home: Home, op: &Op) -> Result<(), NoMemory>
-    ensures { OnOk result (homes.new ≡ homes.old ++ map (λ home. home.1) (spec.result_home [] home (result_width op.now))) }
+    ensures { OnOk result
+        (homes.new ≡ homes.old
+        ++ map (λ home. home.1) (spec.result_home [] home (result_width op.now))) }
 {
     match op {
         Op::Assume { .. } => Ok(()),

@@ -47,7 +47,8 @@ pub fn first_undefined<'a>(
     requires labels { labels.now ≡ labels_of func.now }
     requires different_values { AreDifferent (map (λ value. value.0) (values_of func.now)) }
     requires different_labels { AreDifferent (labels_of func.now) }
-    requires named { NoneFails (λ site. is_some (lacking_name values.now labels.now (parts_of site.what))) sites.now }
+    requires named { NoneFails
+        (λ site. is_some (lacking_name values.now labels.now (parts_of site.what))) sites.now }
     ensures { IfOk result (λ found. MatchOption found (AllDefined func.now) (IsFault func.now)) }
 {
     let homes = homes_of(alloc, func, sites)?;

@@ -55,10 +55,14 @@ pub fn first_in_sites<'a>(
     sites: &[SiteRef<'a>],
 ) -> Result<Option<Undefined<'a>>, NoMemory>
     requires tables { AreUses uses.now }
-    requires within { All (λ site. site.block < length uses.now.func.now.blocks) (map site_of sites.now) }
-    requires named { NoneFails (λ site. is_some (lacking.lacking_name uses.now.values.now uses.now.labels.now (parts_of site.what)))
+    requires within { All (λ site. site.block < length uses.now.func.now.blocks)
         (map site_of sites.now) }
-    ensures { IfOk result (Finds uses.now (flat_map (spec.site_uses uses.now.func.now) (map site_of sites.now))) }
+    requires named { NoneFails
+        (λ site. is_some
+        (lacking.lacking_name uses.now.values.now uses.now.labels.now (parts_of site.what)))
+        (map site_of sites.now) }
+    ensures { IfOk result
+        (Finds uses.now (flat_map (spec.site_uses uses.now.func.now) (map site_of sites.now))) }
 {
     let mut parts = Parts::new(alloc);
     for site in sites {
@@ -76,7 +80,9 @@ fn first_in_site<'a>(uses: &Uses, site: SiteRef<'a>, parts: &[PartRef<'a>]) -> O
     requires tables { AreUses uses.now }
     requires within { site.block < length uses.now.func.now.blocks }
     requires parts { map part_of parts.now ≡ parts_of (item_of site.what) }
-    requires named { is_some (lacking.lacking_name uses.now.values.now uses.now.labels.now (parts_of (item_of site.what))) ≡ false }
+    requires named { is_some
+        (lacking.lacking_name uses.now.values.now uses.now.labels.now
+        (parts_of (item_of site.what))) ≡ false }
     ensures { Finds uses.now (spec.site_uses uses.now.func.now (site_of site.entry)) result }
 {
     match site.what {
@@ -89,8 +95,11 @@ fn first_in_site<'a>(uses: &Uses, site: SiteRef<'a>, parts: &[PartRef<'a>]) -> O
 fn first_in_phi<'a>(uses: &Uses, site: SiteRef<'a>, phi: &'a Phi) -> Option<Undefined<'a>>
     requires tables { AreUses uses.now }
     requires here { site.block < length uses.now.func.now.blocks }
-    requires named { is_some (lacking.lacking_name uses.now.values.now uses.now.labels.now (parts_of (OfPhi phi.now))) ≡ false }
-    ensures { Finds uses.now (flat_map (spec.entry_uses (site_of site.entry)) phi.now.entries) result }
+    requires named { is_some
+        (lacking.lacking_name uses.now.values.now uses.now.labels.now (parts_of (OfPhi phi.now)))
+        ≡ false }
+    ensures { Finds uses.now
+        (flat_map (spec.entry_uses (site_of site.entry)) phi.now.entries) result }
 {
     let entries = phi.entries.items();
     for entry in entries {
@@ -122,8 +131,12 @@ fn first_in_parts<'a>(
 ) -> Option<Undefined<'a>>
     requires tables { AreUses uses.now }
     requires within { site.block < length uses.now.func.now.blocks }
-    requires named { is_some (lacking.lacking_name uses.now.values.now uses.now.labels.now (map part_of parts.now)) ≡ false }
-    ensures { Finds uses.now (flat_map (spec.part_uses (site_of site.entry) (label_of uses.now.func.now site.entry.block) (moment.At site.entry.item))
+    requires named { is_some
+        (lacking.lacking_name uses.now.values.now uses.now.labels.now (map part_of parts.now))
+        ≡ false }
+    ensures { Finds uses.now
+        (flat_map (spec.part_uses (site_of site.entry) (label_of uses.now.func.now site.entry.block)
+        (moment.At site.entry.item))
         (map part_of parts.now)) result }
 {
     for part in parts {
@@ -138,8 +151,11 @@ fn first_in_parts<'a>(
 fn in_part<'a>(uses: &Uses, site: SiteRef<'a>, part: PartRef<'a>) -> Option<Undefined<'a>>
     requires tables { AreUses uses.now }
     requires within { site.block < length uses.now.func.now.blocks }
-    requires named { is_some (lacking.lacking_in uses.now.values.now uses.now.labels.now (part_of part)) ≡ false }
-    ensures { Finds uses.now (spec.part_uses (site_of site.entry) (label_of uses.now.func.now site.entry.block) (moment.At site.entry.item)
+    requires named { is_some
+        (lacking.lacking_in uses.now.values.now uses.now.labels.now (part_of part)) ≡ false }
+    ensures { Finds uses.now
+        (spec.part_uses (site_of site.entry) (label_of uses.now.func.now site.entry.block)
+        (moment.At site.entry.item)
         (part_of part.entry)) result }
 {
     match part {
@@ -161,7 +177,9 @@ fn in_operand<'a>(
     requires here { site.block < length uses.now.func.now.blocks }
     requires within { block < length uses.now.func.now.blocks }
     requires named { is_some (lacking.lacking_value uses.now.values.now operand.now) ≡ false }
-    ensures { Finds uses.now (spec.operand_uses (site_of site.entry) (label_of uses.now.func.now block) moment operand.now) result }
+    ensures { Finds uses.now
+        (spec.operand_uses (site_of site.entry)
+        (label_of uses.now.func.now block) moment operand.now) result }
 {
     match operand {
         Operand::Name(name) => in_name(uses, site, name, block, moment),
@@ -180,7 +198,8 @@ fn in_name<'a>(
     requires tables { AreUses uses.now }
     requires here { site.block < length uses.now.func.now.blocks }
     requires within { block < length uses.now.func.now.blocks }
-    requires named { is_some (place_of name.now (map (λ value. value.0) uses.now.values.now)) ≡ true }
+    requires named { is_some (place_of name.now (map (λ value. value.0) uses.now.values.now))
+        ≡ true }
     ensures { Finds uses.now ((record {
       site = site_of site.entry;
       name = name.now;
@@ -201,7 +220,8 @@ fn in_name<'a>(
 // Where the value with this name is given.
 fn home_of(uses: &Uses, name: &Name) -> Option<Home>
     requires { AreUses uses.now }
-    ensures { MatchOption result (place_of name.now (map (λ value. value.0) uses.now.values.now) ≡ None)
+    ensures { MatchOption result
+        (place_of name.now (map (λ value. value.0) uses.now.values.now) ≡ None)
         (λ home. Contains (homes.homes_of uses.now.func.now) (name.now, home)) }
 {
     match uses.values.number(name.bytes()) {

@@ -19,7 +19,8 @@ pub struct Lacking<'t, 'a> {
 }
 
 impl<'t, 'a> SiteTest for Lacking<'t, 'a> {
-    ghost fails = { λ test site. is_some (spec.lacking_name test.values.now test.labels.now (parts_of site.what)) };
+    ghost fails = { λ test site. is_some
+        (spec.lacking_name test.values.now test.labels.now (parts_of site.what)) };
 
     fn fails(&self, _alloc: Global, _site: SiteRef, parts: &[PartRef]) -> Result<bool, NoMemory> {
         Ok(lacking_name(self.values, self.labels, parts).is_some())
@@ -32,7 +33,8 @@ pub fn lacking_name<'a>(
     labels: &NameTable,
     parts: &[PartRef<'a>],
 ) -> Option<&'a Name>
-    ensures { option_copied result ≡ spec.lacking_name values.now labels.now (map part_of parts.now) }
+    ensures { option_copied result
+        ≡ spec.lacking_name values.now labels.now (map part_of parts.now) }
 {
     for part in parts {
         let name = lacking_in(values, labels, *part);

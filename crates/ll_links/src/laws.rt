@@ -12,7 +12,8 @@ pub fn items_of_a_block()
         → item_at blocks at item ≡ OfPhi (slice_index_or block.phis item phi) }
     ensures instr { (blocks : List Block) (at item : ℕ) (block : Block) (instr : Instr)
         → at < length blocks → slice_index_or blocks at block ≡ block → item < length block.body
-        → item_at blocks at (length block.phis + item) ≡ OfInstr (slice_index_or block.body item instr) }
+        → item_at blocks at (length block.phis + item)
+        ≡ OfInstr (slice_index_or block.body item instr) }
     ensures end { (blocks : List Block) (at : ℕ) (block : Block)
         → at < length blocks → slice_index_or blocks at block ≡ block
         → item_at blocks at (length block.phis + length block.body) ≡ OfEnd block.end }

@@ -67,7 +67,8 @@ pub fn resolve(
     requires few_blocks { length labels.now < 2 ^ 32 }
     requires few_items { count_items func.now.blocks < 2 ^ 32 }
     requires sites { sites.now ≡ sites_of func.now }
-    requires named { NoneFails (λ site. is_some (lacking_name values.now labels.now (parts_of site.what))) sites.now }
+    requires named { NoneFails
+        (λ site. is_some (lacking_name values.now labels.now (parts_of site.what))) sites.now }
     ensures { IfOk result (AreWhole values.now labels.now func.now.blocks) }
 {
     let sources = list_sources(alloc, sites, values)?;
@@ -88,7 +89,8 @@ fn list_sources(
     values: &ValueTable,
 ) -> Result<FlatLists<Source>, NoMemory>
     requires { length values.now < 2 ^ 32 }
-    ensures { IfOk result (λ lists. lists ≡ (map (λ site. spec.known_sources values.now site.what) sites.now, [])) }
+    ensures { IfOk result
+        (λ lists. lists ≡ (map (λ site. spec.known_sources values.now site.what) sites.now, [])) }
 {
     let mut lists = FlatLists::new(alloc);
     let mut parts = Parts::new(alloc);
@@ -108,7 +110,12 @@ fn push_sources(
     parts: &[PartRef],
 ) -> Result<(), NoMemory>
     requires { length values.now < 2 ^ 32 }
-    ensures { OnOk result (lists.new ≡ (lists.old.0, lists.old.1 ++ filter_map (spec.source_in values.now) (map part_of parts.now))) }
+    ensures { OnOk result
+        (lists.new ≡ (
+          lists.old.0,
+          lists.old.1
+              ++ filter_map (spec.source_in values.now) (map part_of parts.now),
+        )) }
 {
     for part in parts {
         if let Some(source) = source_in(values, *part) {
@@ -124,7 +131,8 @@ fn list_blocks(
     labels: &NameTable,
 ) -> Result<FlatLists<BlockId>, NoMemory>
     requires { length labels.now < 2 ^ 32 }
-    ensures { IfOk result (λ lists. lists ≡ (map (λ site. spec.known_blocks labels.now site.what) sites.now, [])) }
+    ensures { IfOk result
+        (λ lists. lists ≡ (map (λ site. spec.known_blocks labels.now site.what) sites.now, [])) }
 {
     let mut lists = FlatLists::new(alloc);
     let mut parts = Parts::new(alloc);
@@ -144,7 +152,12 @@ fn push_blocks(
     parts: &[PartRef],
 ) -> Result<(), NoMemory>
     requires { length labels.now < 2 ^ 32 }
-    ensures { OnOk result (lists.new ≡ (lists.old.0, lists.old.1 ++ filter_map (spec.block_in labels.now) (map part_of parts.now))) }
+    ensures { OnOk result
+        (lists.new ≡ (
+          lists.old.0,
+          lists.old.1
+              ++ filter_map (spec.block_in labels.now) (map part_of parts.now),
+        )) }
 {
     for part in parts {
         if let Some(block) = block_in(labels, *part) {
@@ -160,7 +173,8 @@ fn list_results(
     values: &ValueTable,
 ) -> Result<Vec<Option<ValueId>>, NoMemory>
     requires { length values.now < 2 ^ 32 }
-    ensures { IfOk result (λ results. results.items ≡ map (λ site. spec.result_of values.now site.what) sites.now) }
+    ensures { IfOk result
+        (λ results. results.items ≡ map (λ site. spec.result_of values.now site.what) sites.now) }
 {
     let mut results = Vec::new(alloc);
     let items = sites.items();

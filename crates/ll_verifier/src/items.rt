@@ -29,7 +29,8 @@ use wx_base::{Name, NoMemory};
 /// rules; else the first rule that it breaks. That it is formed isn't asked.
 pub fn check(alloc: Global, func: &Func) -> Result<Result<Checked, VerifyFault>, NoMemory>
     requires some_block { 1 ≤ length func.now.blocks }
-    ensures { IfOk result (λ answer. MatchResult answer (IsChecked func.now) (rules.Breaks func.now)) }
+    ensures { IfOk result
+        (λ answer. MatchResult answer (IsChecked func.now) (rules.Breaks func.now)) }
 {
     match first_excess(func) {
         Some(excess) => Ok(Err(VerifyFault::TooMany(excess))),
@@ -40,7 +41,8 @@ pub fn check(alloc: Global, func: &Func) -> Result<Result<Checked, VerifyFault>,
 fn check_names(alloc: Global, func: &Func) -> Result<Result<Checked, VerifyFault>, NoMemory>
     requires some_block { 1 ≤ length func.now.blocks }
     requires limits { KeepsLimits func.now }
-    ensures { IfOk result (λ answer. MatchResult answer (IsChecked func.now) (rules.Breaks func.now)) }
+    ensures { IfOk result
+        (λ answer. MatchResult answer (IsChecked func.now) (rules.Breaks func.now)) }
 {
     match repeated_name(alloc, func)? {
         Some(name) => Ok(Err(VerifyFault::NameTwice { name })),
@@ -53,7 +55,9 @@ fn check_names(alloc: Global, func: &Func) -> Result<Result<Checked, VerifyFault
 
 // The first name that is given twice.
 fn repeated_name(alloc: Global, func: &Func) -> Result<Option<Name>, NoMemory>
-    ensures { IfOk result (λ found. MatchOption found (rules.HasDifferentNames func.now) (rules.IsGivenTwice func.now)) }
+    ensures { IfOk result
+        (λ found. MatchOption found (rules.HasDifferentNames func.now)
+        (rules.IsGivenTwice func.now)) }
 {
     let names = list_names(alloc, func)?;
     let items = names.items();
@@ -71,7 +75,8 @@ fn check_sites(
     requires some_block { 1 ≤ length func.now.blocks }
     requires names { rules.HasNames func.now }
     requires tables { AreTables func.now tables.now }
-    ensures { IfOk result (λ answer. MatchResult answer (IsChecked func.now) (rules.Breaks func.now)) }
+    ensures { IfOk result
+        (λ answer. MatchResult answer (IsChecked func.now) (rules.Breaks func.now)) }
 {
     if let Some(fault) = missing_name(alloc, func, tables)? {
         return Ok(Err(fault));
@@ -102,7 +107,9 @@ fn missing_name(
 ) -> Result<Option<VerifyFault>, NoMemory>
     requires names { rules.HasNames func.now }
     requires tables { AreTables func.now tables.now }
-    ensures { IfOk result (λ found. MatchOption found (NoneFails (rules.lacks_name func.now) (sites_of func.now)) (rules.Breaks func.now)) }
+    ensures { IfOk result
+        (λ found. MatchOption found (NoneFails (rules.lacks_name func.now) (sites_of func.now))
+        (rules.Breaks func.now)) }
 {
     let test = Lacking {
         values: &tables.values,
@@ -124,7 +131,9 @@ fn missing_name(
 fn other_type(alloc: Global, func: &Func, tables: &Tables) -> Result<Option<VerifyFault>, NoMemory>
     requires named { rules.IsNamed func.now }
     requires tables { AreTables func.now tables.now }
-    ensures { IfOk result (λ found. MatchOption found (NoneFails (rules.differs func.now) (sites_of func.now)) (rules.Breaks func.now)) }
+    ensures { IfOk result
+        (λ found. MatchOption found (NoneFails (rules.differs func.now) (sites_of func.now))
+        (rules.Breaks func.now)) }
 {
     let test = TypeDiffers {
         values: &tables.values,
@@ -143,7 +152,9 @@ fn repeated_number(
 ) -> Result<Option<VerifyFault>, NoMemory>
     requires typed { rules.IsTyped func.now }
     requires tables { AreTables func.now tables.now }
-    ensures { IfOk result (λ found. MatchOption found (NoneFails rules.repeats_case (sites_of func.now)) (rules.Breaks func.now)) }
+    ensures { IfOk result
+        (λ found. MatchOption found (NoneFails rules.repeats_case (sites_of func.now))
+        (rules.Breaks func.now)) }
 {
     let Some(site) = first_site(alloc, &tables.sites, &RepeatedCase)? else {
         return Ok(None);

@@ -18,5 +18,6 @@ pub fn one_answer()
 /// Parameters are the first values: the number of one is its place.
 pub fn parameters_first()
     ensures { (func : Func) (place : ℕ) (param : Param) → Rules func → place < length func.params
-        → number_of (values_of func) (slice_index_or func.params place param).name ≡ Some (value_id place) }
+        → number_of (values_of func) (slice_index_or func.params place param).name
+        ≡ Some (value_id place) }
 {}

@@ -39,7 +39,8 @@ pub fn check_paths(
     requires entries { rules.HasEntries func.now }
     requires tables { AreTables func.now tables.now }
     requires whole { AreWhole (values_of func.now) (labels_of func.now) func.now.blocks links }
-    ensures { IfOk result (λ answer. MatchResult answer (IsChecked func.now) (rules.Breaks func.now)) }
+    ensures { IfOk result
+        (λ answer. MatchResult answer (IsChecked func.now) (rules.Breaks func.now)) }
 {
     match flow_of(alloc, func, &tables.labels)? {
         Ok(flow) => check_flow(alloc, func, tables, flow, links),
@@ -58,7 +59,8 @@ fn check_flow(
     requires tables { AreTables func.now tables.now }
     requires flow { IsFlowOf func.now flow }
     requires whole { AreWhole (values_of func.now) (labels_of func.now) func.now.blocks links }
-    ensures { IfOk result (λ answer. MatchResult answer (IsChecked func.now) (rules.Breaks func.now)) }
+    ensures { IfOk result
+        (λ answer. MatchResult answer (IsChecked func.now) (rules.Breaks func.now)) }
 {
     if let Some(block) = first_unreached(alloc, func, &flow)? {
         return Ok(Err(VerifyFault::Unreached { block }));
@@ -85,7 +87,8 @@ fn undefined_name(
     requires connected { rules.IsConnected func.now }
     requires tables { AreTables func.now tables.now }
     requires flow { IsFlowOf func.now flow.now }
-    ensures { IfOk result (λ found. MatchOption found (AllDefined func.now) (rules.Breaks func.now)) }
+    ensures { IfOk result
+        (λ found. MatchOption found (AllDefined func.now) (rules.Breaks func.now)) }
 {
     let sites = &tables.sites;
     let values = &tables.values;

@@ -18,7 +18,8 @@ pub fn first_spot<T: SiteTest>(
     test: &T,
 ) -> Result<Option<Spot>, NoMemory>
     requires { sites.now ≡ sites_of func.now }
-    ensures { IfOk result (λ found. MatchOption found (NoneFails (T.fails test.now) (sites_of func.now))
+    ensures { IfOk result
+        (λ found. MatchOption found (NoneFails (T.fails test.now) (sites_of func.now))
         (StandsFirst func.now (T.fails test.now))) }
 {
     match first_site(alloc, sites, test)? {

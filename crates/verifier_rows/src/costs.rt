@@ -1,37 +1,30 @@
 //! What a table of costs gives the blocks and edges of a function.
 
 ghost use Rattle.std.specs.Prelude.{◌≢◌, ◌<◌, length, All, AllPairs, IsTrue};
+ghost use Rattle.cost_table.specs.Table.{spelled};
 ghost use Rattle.flow_graph.specs.Sorted.{AreSorted};
 
 use crate::told::{named, no_row};
 use crate::verdict::MOST;
 use cost_table::{CostFault, Costs, read_costs};
 use flow_graph::{Edge, sorted};
-use ll_tree::Block;
+use ll_items::list_labels;
 use ll_verifier::Sound;
 use std::alloc::Global;
-use wx_base::{Copied, Name, NoMemory};
+use wx_base::NoMemory;
 
 /// The costs of the blocks in the order of the file, and those of the edges by the places of
 /// their ends; or the fault of the table.
 pub fn table_text(alloc: Global, sound: &Sound, table: &[u8]) -> Result<String, NoMemory> {
-    let labels = labels_of(alloc, sound.func().blocks.items())?;
+    let labels = list_labels(alloc, sound.func())?;
     let edges = sorted(edges_of(alloc, sound)?)?;
-    if !are_different(&labels) {
+    if !are_different(labels.items()) {
         return no_row(alloc);
     }
-    if !are_within(edges.items(), labels.len()) {
+    if !are_within(edges.items(), labels.items()) {
         return no_row(alloc);
     }
-    read_table(alloc, table, &labels, edges.items())
-}
-
-fn labels_of(alloc: Global, blocks: &[Block]) -> Result<Vec<Name>, NoMemory> {
-    let mut labels = Vec::new(alloc);
-    for block in blocks {
-        labels.push(block.label.copy(alloc)?)?;
-    }
-    Ok(labels)
+    read_table(alloc, table, labels.items(), edges.items())
 }
 
 // Each edge by the places of its blocks in the file.
@@ -51,32 +44,35 @@ fn edges_of(alloc: Global, sound: &Sound) -> Result<Vec<Edge>, NoMemory> {
 }
 
 #[tactic(auto, using(crate::proofs::DifferLaws::differ_none, crate::proofs::DifferLaws::differ_more))]
-fn are_different(labels: &[Name]) -> bool
-    ensures { IsTrue result → AllPairs (λ label other. label ≢ other) labels.now }
+fn are_different(labels: &[&[u8]]) -> bool
+    ensures { IsTrue result → AllPairs (λ label other. label ≢ other) (spelled labels.now) }
 {
     match labels {
         [] => true,
         [label, others @ ..] => {
-            others.iter().all(|other| !label.same(other)) && are_different(others)
+            others.iter().all(|other| *label != *other) && are_different(others)
         }
     }
 }
 
-fn are_within(edges: &[Edge], count: usize) -> bool
-    ensures { IsTrue result → All (λ edge. (edge.from < count) × (edge.to < count)) edges.now }
+#[tactic(auto, using(crate::proofs::DifferLaws::within_labels))]
+fn are_within(edges: &[Edge], labels: &[&[u8]]) -> bool
+    ensures { IsTrue result → All (λ edge. (edge.from < length (spelled labels.now))
+        × (edge.to < length (spelled labels.now))) edges.now }
 {
+    let count = labels.len();
     edges.iter().all(|edge| (edge.from as usize) < count && (edge.to as usize) < count)
 }
 
 fn read_table(
     alloc: Global,
     table: &[u8],
-    labels: &[Name],
+    labels: &[&[u8]],
     edges: &[Edge],
 ) -> Result<String, NoMemory>
-    requires different { AllPairs (λ label other. label ≢ other) labels.now }
-    requires within { All (λ edge. (edge.from < length labels.now)
-        × (edge.to < length labels.now)) edges.now }
+    requires different { AllPairs (λ label other. label ≢ other) (spelled labels.now) }
+    requires within { All (λ edge. (edge.from < length (spelled labels.now))
+        × (edge.to < length (spelled labels.now))) edges.now }
     requires sorted { AreSorted edges.now }
 {
     if table.len() > MOST {
@@ -104,10 +100,7 @@ fn costs_text(alloc: Global, costs: &Costs) -> Result<String, NoMemory> {
 
 fn blocks_text(alloc: Global, costs: &Costs) -> Result<String, NoMemory> {
     let mut line = String::new(alloc);
-    let Ok(count) = u32::try_from(costs.block_count()) else {
-        return Ok(line);
-    };
-    for block in 0..count {
+    for block in 0..costs.block_count() {
         line.push_str(format!(in alloc; " {}", costs.of(block))?.as_str())?;
     }
     Ok(line)
@@ -115,10 +108,7 @@ fn blocks_text(alloc: Global, costs: &Costs) -> Result<String, NoMemory> {
 
 fn edges_text(alloc: Global, costs: &Costs) -> Result<String, NoMemory> {
     let mut line = String::new(alloc);
-    let Ok(count) = u32::try_from(costs.edge_count()) else {
-        return Ok(line);
-    };
-    for edge in 0..count {
+    for edge in 0..costs.edge_count() {
         line.push_str(format!(in alloc; " {}", costs.edge(edge))?.as_str())?;
     }
     Ok(line)

@@ -72,9 +72,11 @@ module _ (laws : Laws) (words : List (List ℕ)) (told : List ℕ → Option (Li
 
   same_func : (job other : JobWords) (func second : Func) → IsSpelled words here job func → IsSpelled words here other second → (job ≡ other) × (func ≡ second)
   same_func job other func second is also =
-      let (same, texts) = same_text job other is.text also.text (is.asks, is.stands) (also.asks, also.stands) in
-      (same, laws.one_func is.text job.function func second is.spells
-      (subst (λ (j : JobWords). FileSpells is.text j.function second) (sym same) (subst (λ (text : List ℕ). FileSpells text other.function second) (sym texts) also.spells)))
+      let (same, texts) = same_text job other is.text also.text (is.asks, is.stands) (also.asks, also.stands) in (
+        same,
+        laws.one_func is.text job.function func second is.spells
+            (subst (λ (j : JobWords). FileSpells is.text j.function second) (sym same) (subst (λ (text : List ℕ). FileSpells text other.function second) (sym texts) also.spells)),
+      )
 
   same_table : (job other : JobWords) (func second : Func) (text bytes : List ℕ) → HasTable job func text → HasTable other second bytes → (job ≡ other) × (func ≡ second) × (text ≡ bytes)
   same_table job other func second text bytes (is, stands) (also, there) =
@@ -83,9 +85,12 @@ module _ (laws : Laws) (words : List (List ℕ)) (told : List ℕ → Option (Li
 
   same_costs : (job other : JobWords) (func second : Func) (costs others : CostLists) → IsCosted words here job func costs → IsCosted words here other second others → (job ≡ other) × (func ≡ second) × (costs ≡ others)
   same_costs job other func second costs others is also =
-      let (same, funcs, texts) = same_table job other func second is.text also.text (is.accepted, is.stands) (also.accepted, also.stands) in
-      (same, funcs, laws.one_table is.text func costs others is.accepted.rules is.table
-      (subst (λ (f : Func). IsTableOf is.text f others) (sym funcs) (subst (λ (text : List ℕ). IsTableOf text second others) (sym texts) also.table)))
+      let (same, funcs, texts) = same_table job other func second is.text also.text (is.accepted, is.stands) (also.accepted, also.stands) in (
+        same,
+        funcs,
+        laws.one_table is.text func costs others is.accepted.rules is.table
+            (subst (λ (f : Func). IsTableOf is.text f others) (sym funcs) (subst (λ (text : List ℕ). IsTableOf text second others) (sym texts) also.table)),
+      )
 
   -- ---- the steps
 
@@ -168,10 +173,16 @@ module _ (laws : Laws) (words : List (List ℕ)) (told : List ℕ → Option (Li
 
   ends : (answer : Answer) → Cause words here answer → Stops answer ⊎ OfFunction words here answer
   ends answers.Usage cause = inl (omega arith, λ (job, asks). cause job asks)
-  ends (answers.TooLong which.File) (job, asks, longer) = inl (omega arith, λ (other, text, (also, stands)).
-      not_longer job.file FILE_LIMIT text (subst (λ (j : JobWords). StandsUnder here j.file FILE_LIMIT text) (one_job words other job also asks) stands) longer)
-  ends (answers.TooLong which.Costs) (job, func, is, longer) = inl (omega arith, λ (other, second, text, (also, stands)).
-      not_longer job.costs COSTS_LIMIT text (subst (λ (j : JobWords). StandsUnder here j.costs COSTS_LIMIT text) (one_job words other job also.spelled.asks is.spelled.asks) stands) longer)
+  ends (answers.TooLong which.File) (job, asks, longer) = inl (
+    omega arith,
+    λ (other, text, (also, stands)).
+        not_longer job.file FILE_LIMIT text (subst (λ (j : JobWords). StandsUnder here j.file FILE_LIMIT text) (one_job words other job also asks) stands) longer,
+  )
+  ends (answers.TooLong which.Costs) (job, func, is, longer) = inl (
+    omega arith,
+    λ (other, second, text, (also, stands)).
+        not_longer job.costs COSTS_LIMIT text (subst (λ (j : JobWords). StandsUnder here j.costs COSTS_LIMIT text) (one_job words other job also.spelled.asks is.spelled.asks) stands) longer,
+  )
   ends (answers.TooLong which.Proof) cause = absurd cause
   ends (answers.Read fault) cause = inl (omega arith, stops_read fault cause)
   ends (answers.Verify fault) cause = inl (omega arith, stops_verify fault cause)

@@ -37,9 +37,9 @@ module _ (func : Func) (ends : (args : List ℕ) → AreArguments (widths_of fun
   one_run args path others vals values result given run also =
       elim (ends args run.walk.arguments) [
         | inl once ↦
-          let (here, mine, gives) = once.only path vals result run in
-          let (there, yours, returns) = once.only others values given also in
-          (here ∙ sym there, gives ∙ sym returns)
+            let (here, mine, gives) = once.only path vals result run in
+            let (there, yours, returns) = once.only others values given also in
+            (here ∙ sym there, gives ∙ sym returns)
         | inr stuck ↦ absurd (stuck.never path vals result run)
       ]
 
@@ -48,9 +48,9 @@ module _ (func : Func) (ends : (args : List ℕ) → AreArguments (widths_of fun
       elim (ends args stuck.walk.arguments) [
         | inl once ↦ absurd (once.never block cause stuck)
         | inr at ↦
-          let (here, is) = at.only block cause stuck in
-          let (there, does) = at.only other why also in
-          (here ∙ sym there, is ∙ sym does)
+            let (here, is) = at.only block cause stuck in
+            let (there, does) = at.only other why also in
+            (here ∙ sym there, is ∙ sym does)
       ]
 
   pub not_both : (args : List ℕ) (path : List (List ℕ)) (vals : Vals) (result : RetVal) (block : List ℕ) (cause : UndefinedCause) → Run func args path vals result → Stuck func args block cause → ⊥

@@ -20,10 +20,7 @@ use wx_base::{Arg, Args, Copied, Name, NoMemory, Path, Sequence};
 pub(crate) enum Ended {
     Ran(Witness),
     /// What happens at the end of this block isn't defined.
-    Stuck {
-        block: Name,
-        cause: UndefinedCause,
-    },
+    Stuck { block: Name, cause: UndefinedCause },
 }
 
 /// The run on arguments of the function.
@@ -52,7 +49,9 @@ pub(crate) fn run_on(
             }))
         }
         RunEnd::Undefined { block, cause } => {
-            let block = sound.func().blocks.items()[block as usize].label.copy(alloc)?;
+            let block = sound.func().blocks.items()[block as usize]
+                .label
+                .copy(alloc)?;
             Ok(Ended::Stuck { block, cause })
         }
     }

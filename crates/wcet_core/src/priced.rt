@@ -22,7 +22,8 @@ impl<'a> Model for Priced<'a> {
 
     ghost view = { λ priced. record { func = priced.sound.now.func; costs = priced.costs.now } };
 
-    ghost invariant = { λ priced. IsOwn (record { func = priced.sound.now.func; costs = priced.costs.now }) };
+    ghost invariant = { λ priced. IsOwn
+        (record { func = priced.sound.now.func; costs = priced.costs.now }) };
 }
 
 impl<'a> Priced<'a> {

@@ -77,12 +77,7 @@ fn args_of(alloc: Global, params: &[Param], numbers: &[u32]) -> Result<Args, NoM
 }
 
 // The run on arguments that have one.
-fn witness(
-    alloc: Global,
-    args: Args,
-    sound: &Sound,
-    costs: &Costs,
-) -> Result<Witness, NoMemory>
+fn witness(alloc: Global, args: Args, sound: &Sound, costs: &Costs) -> Result<Witness, NoMemory>
     requires rules { Rules sound.now.func }
     requires costs { AreCostsOf sound.now.func costs.now }
     requires widths { map (λ arg. arg.width) args ≡ walks.widths_of sound.now.func }

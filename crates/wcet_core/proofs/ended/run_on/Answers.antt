@@ -20,6 +20,8 @@ returns-in_ok-path-in-Done c =
     let func = c.args.sound.now.func in
     let numbers : c.deref.result.now ≡ numbers_of c.args.args = c.deref.ensures.value ∙ c.in_ok-numbers.ensures ∙ ap numbers_of c.items.ensures in
     let of : c.in_ok-runner.runner.func ≡ func = ap (λ r. r.func) c.in_ok-runner.ensures in
-    let along : path_labels c.run.new.self ≡ c.in_ok-path-in-Done.path = (λ i. labels_at ((c.in-Done.ensures.func ∙ of) i) (sym c.path.ensures i)) ∙ sym c.in_ok-path-in-Done.ensures in
-    (refl, done_run func (costs_by_label func c.args.costs.now) c.args.args c.in_ok-path-in-Done.path c.in-Done.result c.in-Done.cost c.requires.widths
-    (moved func c.in_ok-runner.runner.func c.args.costs.now c.new-priced.result c.deref.result.now (numbers_of c.args.args) (path_labels c.run.new.self) c.in_ok-path-in-Done.path (Done c.in-Done.result c.in-Done.cost) of c.new-priced.ensures.is numbers along c.in-Done.ensures.answer))
+    let along : path_labels c.run.new.self ≡ c.in_ok-path-in-Done.path = (λ i. labels_at ((c.in-Done.ensures.func ∙ of) i) (sym c.path.ensures i)) ∙ sym c.in_ok-path-in-Done.ensures in (
+      refl,
+      done_run func (costs_by_label func c.args.costs.now) c.args.args c.in_ok-path-in-Done.path c.in-Done.result c.in-Done.cost c.requires.widths
+          (moved func c.in_ok-runner.runner.func c.args.costs.now c.new-priced.result c.deref.result.now (numbers_of c.args.args) (path_labels c.run.new.self) c.in_ok-path-in-Done.path (Done c.in-Done.result c.in-Done.cost) of c.new-priced.ensures.is numbers along c.in-Done.ensures.answer),
+    )

@@ -29,7 +29,9 @@ returns c =
     let func = c.args.sound.now.func in
     let wide = widths_are func c.func.result.now c.items-params.result.now c.in_ok-widths.widths.items c.deref.result.now c.deref.ensures.value c.in_ok-widths.ensures c.items-params.ensures c.func.ensures.func in
     let best = best_found func c.args.costs.now c.in_ok-machine.machine c.deref.result.now c.in_ok-machine.ensures wide c.in_ok-best.field-0 c.in-Some.best c.in-Some.is c.in_ok-best.ensures.best in
-    let on : numbers_of c.in_ok-witness.witness.args ≡ c.in-Some.best.args = ap numbers_of c.in_ok-witness.ensures.args ∙ c.in_ok-args.ensures.numbers ∙ c.items.ensures in
-    (refl, omega (arith, c.if-bits-most.false, c.bits-bits.ensures),
-    worst func (costs_by_label func c.args.costs.now) (λ args are. c.each_list_ends_once.ensures func args c.func.ensures.rules are) c.in-Some.best.args c.in-Some.best.cost c.in_ok-witness.witness best on c.in_ok-witness.ensures.run,
-    c.new-portions.ensures)
+    let on : numbers_of c.in_ok-witness.witness.args ≡ c.in-Some.best.args = ap numbers_of c.in_ok-witness.ensures.args ∙ c.in_ok-args.ensures.numbers ∙ c.items.ensures in (
+      refl,
+      omega (arith, c.if-bits-most.false, c.bits-bits.ensures),
+      worst func (costs_by_label func c.args.costs.now) (λ args are. c.each_list_ends_once.ensures func args c.func.ensures.rules are) c.in-Some.best.args c.in-Some.best.cost c.in_ok-witness.witness best on c.in_ok-witness.ensures.run,
+      c.new-portions.ensures,
+    )

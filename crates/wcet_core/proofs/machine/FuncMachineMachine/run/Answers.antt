@@ -19,24 +19,24 @@ answered it func args path found end same is answer =
 pub returns-clause-cost : goal.returns-clause-cost
 returns-clause-cost c = elim c.match-run.branch [
   | in-Done w ↦
-    let it = c.self.inside.priced in
-    let answer = answered it c.self.inside.runner.func c.args.args.now _ c.run.result _ c.self.invariant.same w.in-Done.is c.run.ensures.answer in
-    rw w.result-is (subst (λ (it : CostedFunc). Reached it.func (costs_by_label it.func it.costs) w.in-Done.cost c.args.args.now) c.self.view_is
-    (done_reached it.func (costs_by_label it.func it.costs) c.args.args.now _ _ _ answer))
+      let it = c.self.inside.priced in
+      let answer = answered it c.self.inside.runner.func c.args.args.now _ c.run.result _ c.self.invariant.same w.in-Done.is c.run.ensures.answer in
+      rw w.result-is (subst (λ (it : CostedFunc). Reached it.func (costs_by_label it.func it.costs) w.in-Done.cost c.args.args.now) c.self.view_is
+      (done_reached it.func (costs_by_label it.func it.costs) c.args.args.now _ _ _ answer))
   | in-Undefined w ↦ rw w.result-is tt
 ]
 
 pub returns-clause-only : goal.returns-clause-only
 returns-clause-only c = λ n reached. elim c.match-run.branch [
   | in-Done w ↦
-    let it = c.self.inside.priced in
-    let answer = answered it c.self.inside.runner.func c.args.args.now _ c.run.result _ c.self.invariant.same w.in-Done.is c.run.ensures.answer in
-    let inside = subst (λ (it : CostedFunc). Reached it.func (costs_by_label it.func it.costs) n c.args.args.now) (sym c.self.view_is) reached in
-    w.result-is ∙ ap Some (one_cost it.func (costs_by_label it.func it.costs) (λ args are. c.each_list_ends_once.ensures it.func args c.self.invariant.own.rules are) c.args.args.now _ n
-    (done_reached it.func (costs_by_label it.func it.costs) c.args.args.now _ _ _ answer) inside)
+      let it = c.self.inside.priced in
+      let answer = answered it c.self.inside.runner.func c.args.args.now _ c.run.result _ c.self.invariant.same w.in-Done.is c.run.ensures.answer in
+      let inside = subst (λ (it : CostedFunc). Reached it.func (costs_by_label it.func it.costs) n c.args.args.now) (sym c.self.view_is) reached in
+      w.result-is ∙ ap Some (one_cost it.func (costs_by_label it.func it.costs) (λ args are. c.each_list_ends_once.ensures it.func args c.self.invariant.own.rules are) c.args.args.now _ n
+      (done_reached it.func (costs_by_label it.func it.costs) c.args.args.now _ _ _ answer) inside)
   | in-Undefined w ↦
-    let it = c.self.inside.priced in
-    let answer = answered it c.self.inside.runner.func c.args.args.now _ c.run.result _ c.self.invariant.same w.in-Undefined.is c.run.ensures.answer in
-    let inside = subst (λ (it : CostedFunc). Reached it.func (costs_by_label it.func it.costs) n c.args.args.now) (sym c.self.view_is) reached in
-    absurd (stuck_reaches_none it.func (costs_by_label it.func it.costs) (λ args are. c.each_list_ends_once.ensures it.func args c.self.invariant.own.rules are) c.args.args.now _ _ _ n answer inside)
+      let it = c.self.inside.priced in
+      let answer = answered it c.self.inside.runner.func c.args.args.now _ c.run.result _ c.self.invariant.same w.in-Undefined.is c.run.ensures.answer in
+      let inside = subst (λ (it : CostedFunc). Reached it.func (costs_by_label it.func it.costs) n c.args.args.now) (sym c.self.view_is) reached in
+      absurd (stuck_reaches_none it.func (costs_by_label it.func it.costs) (λ args are. c.each_list_ends_once.ensures it.func args c.self.invariant.own.rules are) c.args.args.now _ _ _ n answer inside)
 ]
