@@ -5,6 +5,7 @@ pub mod LayoutLaws
 pub mod LinearLaws
 pub mod MarkLaws
 pub mod MarkedLaws
+pub mod PlaceLaws
 pub mod PutLaws
 pub mod RangedLaws
 pub mod ReadLaws
@@ -12,5 +13,7 @@ pub mod SelectLaws
 pub mod SextLaws
 pub mod SignLaws
 pub mod SumLaws
+pub mod SumPieceLaws
 pub mod WrapLaws
+pub mod WrappedLaws
 pub mod ZextLaws

@@ -5,5 +5,7 @@ pub mod Piece
 pub mod Ranged
 pub mod Select
 pub mod Sext
+pub mod Sum
 pub mod Vars
+pub mod Wrapping
 pub mod Zext

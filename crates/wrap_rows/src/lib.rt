@@ -11,7 +11,9 @@ mod piece;
 mod ranged;
 mod select;
 mod sext;
+mod sum;
 mod vars;
+mod wrapping;
 mod zext;
 
 pub use blocks::{add_equation, add_sign, gap, greatest, is_marked, mark_of, power, sign_of};
@@ -25,5 +27,6 @@ pub use piece::Piece;
 pub use ranged::Ranged;
 pub use select::Select;
 pub use sext::Sext;
+pub use sum::{Sum, SumKind};
 pub use vars::{ValueVars, value_at};
 pub use zext::Zext;

@@ -1,0 +1,62 @@
+// What pieces share whose number is an exact result modulo `2^width`.
+ghost use Rattle.std.specs.Prelude.{◌≡◌, ◌-◌, ◌^◌, ◌≤◌, ◌≤ℤ◌, ◌<ℤ◌, pos, neg_ℤ, take, drop, length, unsigned_abs};
+ghost use Rattle.ir_meaning.specs.Whole.{IsWidth, signed, is_unsigned, is_signed};
+ghost use Rattle.wrap_rows.specs.Vars.{IsNumber};
+ghost use Rattle.wrap_rows.specs.Wrapping.{listed, bars};
+
+use crate::blocks::power;
+use ll_tree::Flags;
+use mix_system::Lit;
+
+/// The literals that flags list. The first so many are those of `nuw`, the others those of `nsw`.
+pub fn listed(flags: Flags, leaving: usize, lits: &[Lit]) -> &[Lit]
+    requires { leaving ≤ length lits.now }
+    ensures { result.now ≡ listed flags.nuw flags.nsw
+        (take leaving lits.now) (drop leaving lits.now) }
+{
+    let from = if flags.nuw { 0 } else { leaving };
+    let to = if flags.nsw { lits.len() } else { leaving };
+    &lits[from..to]
+}
+
+/// Whether a flag bars an exact result, given the exact result of the signed readings.
+pub fn is_barred(flags: Flags, width: u32, exact: i128, exact_signed: i128) -> bool
+    requires { IsWidth width }
+    ensures { result ≡ bars flags width exact exact_signed }
+{
+    let leaves = !is_unsigned(width, exact);
+    let exceeds = !is_signed(width, exact_signed);
+    (flags.nuw && leaves) || (flags.nsw && exceeds)
+}
+
+// Whether a number lies in `0 .. 2^width - 1`.
+fn is_unsigned(width: u32, z: i128) -> bool
+    requires { IsWidth width }
+    ensures { result ≡ is_unsigned width z }
+{
+    0 <= z && z < power(width)
+}
+
+// Whether a number lies in `-2^(width - 1) .. 2^(width - 1) - 1`.
+fn is_signed(width: u32, z: i128) -> bool
+    requires { IsWidth width }
+    ensures { result ≡ is_signed width z }
+{
+    let half = power(width - 1);
+    -half <= z && z < half
+}
+
+/// The signed reading of a number of the width.
+pub fn signed_of(width: u32, number: i128) -> i128
+    requires width { IsWidth width }
+    requires number { IsNumber width number }
+    ensures value { result ≡ signed width (unsigned_abs number) }
+    ensures least { neg_ℤ (pos (2 ^ (width - 1))) ≤ℤ result }
+    ensures greatest { result <ℤ pos (2 ^ (width - 1)) }
+{
+    if number < power(width - 1) {
+        number
+    } else {
+        number - power(width)
+    }
+}
