@@ -1,6 +1,7 @@
 pub mod BlockLaws
 pub mod CaseLaws
 pub mod ClauseLaws
+pub mod CompareLaws
 pub mod LayoutLaws
 pub mod LinearLaws
 pub mod MarkLaws

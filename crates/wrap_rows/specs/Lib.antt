@@ -1,4 +1,5 @@
 pub mod Blocks
+pub mod Compare
 pub mod Layout
 pub mod Normal
 pub mod Piece
