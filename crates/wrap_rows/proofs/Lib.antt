@@ -11,6 +11,7 @@ pub mod RangedLaws
 pub mod ReadLaws
 pub mod SelectLaws
 pub mod SextLaws
+pub mod ShiftRightLaws
 pub mod SignLaws
 pub mod SumLaws
 pub mod WrapLaws

@@ -6,5 +6,6 @@ pub mod Piece
 pub mod Ranged
 pub mod Select
 pub mod Sext
+pub mod ShiftRight
 pub mod Vars
 pub mod Zext

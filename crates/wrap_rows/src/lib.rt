@@ -12,6 +12,7 @@ mod piece;
 mod ranged;
 mod select;
 mod sext;
+mod shift_right;
 mod vars;
 mod zext;
 
@@ -27,5 +28,6 @@ pub use piece::Piece;
 pub use ranged::Ranged;
 pub use select::Select;
 pub use sext::Sext;
+pub use shift_right::ShiftRight;
 pub use vars::{ValueVars, value_at};
 pub use zext::Zext;
