@@ -1,6 +1,7 @@
 pub mod BlockLaws
 pub mod CaseLaws
 pub mod ClauseLaws
+pub mod CompareLaws
 pub mod LayoutLaws
 pub mod LinearLaws
 pub mod MarkLaws
@@ -11,6 +12,7 @@ pub mod RangedLaws
 pub mod ReadLaws
 pub mod SelectLaws
 pub mod SextLaws
+pub mod ShiftRightLaws
 pub mod SignLaws
 pub mod SumLaws
 pub mod SumPieceLaws

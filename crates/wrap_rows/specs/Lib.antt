@@ -1,10 +1,12 @@
 pub mod Blocks
+pub mod Compare
 pub mod Layout
 pub mod Normal
 pub mod Piece
 pub mod Ranged
 pub mod Select
 pub mod Sext
+pub mod ShiftRight
 pub mod Sum
 pub mod Vars
 pub mod Wrapping

@@ -4,6 +4,7 @@
 #![tactic(auto)]
 
 mod blocks;
+mod compare;
 mod laws;
 mod marks;
 mod normal;
@@ -11,12 +12,14 @@ mod piece;
 mod ranged;
 mod select;
 mod sext;
+mod shift_right;
 mod sum;
 mod vars;
 mod wrapping;
 mod zext;
 
 pub use blocks::{add_equation, add_sign, gap, greatest, is_marked, mark_of, power, sign_of};
+pub use compare::Compare;
 pub use laws::{
     what_a_comparison_says, what_a_sign_says, what_an_equation_says,
     what_is_laid_says_what_the_layout_says, what_marks_say,
@@ -27,6 +30,7 @@ pub use piece::Piece;
 pub use ranged::Ranged;
 pub use select::Select;
 pub use sext::Sext;
+pub use shift_right::ShiftRight;
 pub use sum::{Sum, SumKind};
 pub use vars::{ValueVars, value_at};
 pub use zext::Zext;
