@@ -1,2 +1,1 @@
-mod DifferLaws
 mod ItemLaws

@@ -1,85 +1,24 @@
 //! What a table of costs gives the blocks and edges of a function.
 
-ghost use Rattle.std.specs.Prelude.{◌≢◌, ◌<◌, length, All, AllPairs, IsTrue};
-ghost use Rattle.cost_table.specs.Table.{spelled};
-ghost use Rattle.flow_graph.specs.Sorted.{AreSorted};
+ghost use Rattle.std.specs.Prelude.{◌≡◌, length};
+ghost use Rattle.sound_costs.specs.Costs.{AreCostsOf};
 
 use crate::told::{named, no_row};
 use crate::verdict::MOST;
-use cost_table::{CostFault, Costs, read_costs};
-use flow_graph::{Edge, sorted};
-use ll_items::list_labels;
+use ll_links::BlockId;
 use ll_verifier::Sound;
+use sound_costs::{CostFault, Costs, read_costs};
 use std::alloc::Global;
 use wx_base::NoMemory;
 
 /// The costs of the blocks in the order of the file, and those of the edges by the places of
 /// their ends; or the fault of the table.
 pub fn table_text(alloc: Global, sound: &Sound, table: &[u8]) -> Result<String, NoMemory> {
-    let labels = list_labels(alloc, sound.func())?;
-    let edges = sorted(edges_of(alloc, sound)?)?;
-    if !are_different(labels.items()) {
-        return no_row(alloc);
-    }
-    if !are_within(edges.items(), labels.items()) {
-        return no_row(alloc);
-    }
-    read_table(alloc, table, labels.items(), edges.items())
-}
-
-// Each edge by the places of its blocks in the file.
-fn edges_of(alloc: Global, sound: &Sound) -> Result<Vec<Edge>, NoMemory> {
-    let order = sound.order();
-    let mut edges = Vec::new(alloc);
-    for edge in sound.edges() {
-        let (from, to) = (edge.from.0 as usize, edge.to.0 as usize);
-        if let (Some(from), Some(to)) = (order.get(from), order.get(to)) {
-            edges.push(Edge {
-                from: from.0,
-                to: to.0,
-            })?;
-        }
-    }
-    Ok(edges)
-}
-
-#[tactic(auto, using(crate::proofs::DifferLaws::differ_none, crate::proofs::DifferLaws::differ_more))]
-fn are_different(labels: &[&[u8]]) -> bool
-    ensures { IsTrue result → AllPairs (λ label other. label ≢ other) (spelled labels.now) }
-{
-    match labels {
-        [] => true,
-        [label, others @ ..] => {
-            others.iter().all(|other| *label != *other) && are_different(others)
-        }
-    }
-}
-
-#[tactic(auto, using(crate::proofs::DifferLaws::within_labels))]
-fn are_within(edges: &[Edge], labels: &[&[u8]]) -> bool
-    ensures { IsTrue result → All (λ edge. (edge.from < length (spelled labels.now))
-        × (edge.to < length (spelled labels.now))) edges.now }
-{
-    let count = labels.len();
-    edges.iter().all(|edge| (edge.from as usize) < count && (edge.to as usize) < count)
-}
-
-fn read_table(
-    alloc: Global,
-    table: &[u8],
-    labels: &[&[u8]],
-    edges: &[Edge],
-) -> Result<String, NoMemory>
-    requires different { AllPairs (λ label other. label ≢ other) (spelled labels.now) }
-    requires within { All (λ edge. (edge.from < length (spelled labels.now))
-        × (edge.to < length (spelled labels.now))) edges.now }
-    requires sorted { AreSorted edges.now }
-{
     if table.len() > MOST {
         return no_row(alloc);
     }
-    match read_costs(alloc, table, labels, edges) {
-        Ok(costs) => costs_text(alloc, &costs),
+    match read_costs(alloc, table, sound) {
+        Ok(costs) => costs_text(alloc, sound, &costs),
         Err(fault) => fault_text(alloc, &fault),
     }
 }
@@ -92,24 +31,32 @@ fn fault_text(alloc: Global, fault: &CostFault) -> Result<String, NoMemory> {
     }
 }
 
-fn costs_text(alloc: Global, costs: &Costs) -> Result<String, NoMemory> {
-    let blocks = blocks_text(alloc, costs)?;
+fn costs_text(alloc: Global, sound: &Sound, costs: &Costs) -> Result<String, NoMemory>
+    requires { AreCostsOf sound.now.func costs.now }
+{
+    let blocks = blocks_text(alloc, sound.func().blocks.len(), costs)?;
     let edges = edges_text(alloc, costs)?;
     Ok(format!(in alloc; "blocks{blocks}, edges{edges}")?)
 }
 
-fn blocks_text(alloc: Global, costs: &Costs) -> Result<String, NoMemory> {
+fn blocks_text(alloc: Global, count: usize, costs: &Costs) -> Result<String, NoMemory>
+    requires { count ≡ length costs.now.lists.blocks }
+{
     let mut line = String::new(alloc);
-    for block in 0..costs.block_count() {
-        line.push_str(format!(in alloc; " {}", costs.of(block))?.as_str())?;
+    let Ok(count) = u32::try_from(count) else {
+        return Ok(line);
+    };
+    for block in 0..count {
+        line.push_str(format!(in alloc; " {}", costs.of(BlockId(block)))?.as_str())?;
     }
     Ok(line)
 }
 
 fn edges_text(alloc: Global, costs: &Costs) -> Result<String, NoMemory> {
     let mut line = String::new(alloc);
-    for edge in 0..costs.edge_count() {
-        line.push_str(format!(in alloc; " {}", costs.edge(edge))?.as_str())?;
+    for edge in costs.edges() {
+        let cost = costs.edge(BlockId(edge.from), BlockId(edge.to));
+        line.push_str(format!(in alloc; " {cost}")?.as_str())?;
     }
     Ok(line)
 }
