@@ -100,9 +100,12 @@ equal_clauses apart equal row =
 abbrev pub listed : Bool → List Lit
 listed samesign = if samesign then at_least (Row 2) (pos 1) ∷ at_most (Row 2) (negsuc 0) ∷ [] else []
 
+abbrev pub mark_clauses : Bool → Compare → ℕ → List (List Lit)
+mark_clauses samesign compare mark = marks mark (compare.a.mark ∷ compare.b.mark ∷ []) (listed samesign)
+
 abbrev pub value_clauses : (signed samesign : Bool) → Compare → ℕ → List (List Lit)
 value_clauses signed samesign compare first =
-    compared compare.pred first (difference_at signed samesign) ++ marks (first + 1) (compare.a.mark ∷ compare.b.mark ∷ []) (listed samesign)
+    compared compare.pred first (difference_at signed samesign) ++ mark_clauses samesign compare (first + 1)
 
 abbrev pub layout_of : (signed samesign : Bool) → Compare → ℕ → Layout
 layout_of signed samesign compare first = record {

@@ -3,10 +3,10 @@ ghost use Rattle.mix_system.specs.System.{IsInner, Exists};
 ghost use Rattle.ir_meaning.specs.Whole.{IsWidth};
 ghost use Rattle.wrap_rows.specs.Normal.{row_of, clause_of};
 ghost use Rattle.wrap_rows.specs.Layout.{clause_from};
-ghost use Rattle.wrap_rows.specs.Blocks.{compared, marks};
+ghost use Rattle.wrap_rows.specs.Blocks.{compared};
 ghost use Rattle.wrap_rows.specs.Piece.{put_from};
 ghost use Rattle.wrap_rows.specs.Vars.{IsNumber};
-ghost use Rattle.wrap_rows.specs.Compare.{IsAt, reads_signs, needs_signs, sign_ranges, ranges, sign_rows, sign_difference, difference_row, difference_at, sign_clauses_of, equal_clauses, value_clauses, listed, layout, CanTake, reading, read_as, stands_so, holds_of, signs_differ, is_poison, signs, numbers};
+ghost use Rattle.wrap_rows.specs.Compare.{IsAt, reads_signs, needs_signs, sign_ranges, ranges, sign_rows, sign_difference, difference_row, difference_at, sign_clauses_of, equal_clauses, mark_clauses, value_clauses, layout, CanTake, reading, read_as, stands_so, holds_of, signs_differ, is_poison, signs, numbers};
 
 use crate::blocks::{add_sign, is_marked, mark_of, power, sign_of};
 use crate::{Piece, ValueVars, add_lits, add_marks, add_sum, at_least, at_most, times, value_at};
@@ -86,7 +86,8 @@ impl Compare {
 
     // Adds the variables of the signs, where they stand.
     fn declare_signs(&self, into: &mut System) -> Result<(), NoMemory>
-        requires room { length into.old.ranges + length (sign_ranges (needs_signs self.now)) < 2 ^ 31 }
+        requires room { length into.old.ranges + length
+            (sign_ranges (needs_signs self.now)) < 2 ^ 31 }
         ensures { OnOk result (into.new ≡ record into.old {
           ranges = into.old.ranges ++ sign_ranges (needs_signs self.now);
         }) }
@@ -111,7 +112,8 @@ impl Compare {
         ensures { OnOk result (into.new ≡ record into.old {
           rows = into.old.rows ++ map row_of (sign_rows (needs_signs self.now) self.now first);
           clauses = into.old.clauses
-              ++ map (clause_from (length into.old.rows)) (sign_clauses_of (needs_signs self.now) self.now);
+              ++ map (clause_from (length into.old.rows))
+              (sign_clauses_of (needs_signs self.now) self.now);
         }) }
     {
         if !self.needs_signs() {
@@ -152,7 +154,8 @@ impl Compare {
         requires few_vars { length into.old.ranges < 2 ^ 31 }
         requires rows { length into.old.rows + 1 < 2 ^ 31 }
         ensures { OnOk result (into.new ≡ record into.old {
-          rows = into.old.rows ++ row_of (difference_row (reads_signs self.now.pred) self.now first) ∷ [];
+          rows = into.old.rows
+              ++ row_of (difference_row (reads_signs self.now.pred) self.now first) ∷ [];
         }) }
     {
         if !reads_signs(self.pred) {
@@ -218,10 +221,10 @@ impl Compare {
         requires rows { row + length (layout self.now mark).rows ≤ length into.old.rows }
         requires few { length into.old.rows < 2 ^ 31 }
         requires room { length into.old.clauses + length
-            (marks mark (self.now.a.mark ∷ self.now.b.mark ∷ []) (listed self.now.flags.samesign)) < 2 ^ 31 }
+            (mark_clauses self.now.flags.samesign self.now mark) < 2 ^ 31 }
         ensures { OnOk result (into.new ≡ record into.old {
           clauses = into.old.clauses ++ map (clause_from row)
-              (marks mark (self.now.a.mark ∷ self.now.b.mark ∷ []) (listed self.now.flags.samesign));
+              (mark_clauses self.now.flags.samesign self.now mark);
         }) }
     {
         let operands = [self.a.mark, self.b.mark];
@@ -254,7 +257,8 @@ impl Compare {
         requires width { IsWidth self.now.width }
         requires known { left + length (sign_ranges (needs_signs self.now)) ≤ length point.old }
         requires few { length point.old < 2 ^ 31 }
-        ensures { point.new ≡ put_from left (signs (needs_signs self.now) self.now.width a b) point.old }
+        ensures { point.new
+            ≡ put_from left (signs (needs_signs self.now) self.now.width a b) point.old }
     {
         if !self.needs_signs() {
             return;
@@ -384,7 +388,7 @@ fn add_compared(
     }
 }
 
-// Adds the clauses by which one of two literals is true where a row's sum isn't 0, the other where it is.
+// Adds the clauses by which one literal is true where a row's sum isn't 0, the other where it is.
 fn add_equal(
     alloc: Global,
     into: &mut System,

@@ -107,7 +107,8 @@ impl ShiftRight {
         ensures { OnOk result (into.new ≡ record into.old {
           rows = into.old.rows ++ map row_of (sign_rows self.now.signed self.now first);
           clauses = into.old.clauses
-              ++ map (clause_from (length into.old.rows)) (sign_clauses_of self.now.signed self.now);
+              ++ map (clause_from (length into.old.rows))
+              (sign_clauses_of self.now.signed self.now);
         }) }
     {
         if !self.signed {
@@ -177,7 +178,8 @@ impl ShiftRight {
             (value_clauses self.now.signed self.now first) < 2 ^ 31 }
         ensures { OnOk result (into.new ≡ record into.old {
           clauses =
-              into.old.clauses ++ map (clause_from row) (value_clauses self.now.signed self.now first);
+              into.old.clauses
+              ++ map (clause_from row) (value_clauses self.now.signed self.now first);
         }) }
     {
         add_equation(alloc, into, row + self.division_at(), 0)?;
