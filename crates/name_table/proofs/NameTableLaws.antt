@@ -1,6 +1,5 @@
 -- Places of names, by recursion on the list.
-use Rattle.std.proofs.Common.{◌≡◌, ◌+◌, ℕ, suc, List, [], ◌∷◌, ◌++◌, length, map, Option, Some, None, refl, sym, ◌∙◌, ap, arith, true, false, cond, not, Bool, Bor, nat_lt, ◌||◌}
-use Rattle.std.proofs.lemmas.List.{map-append}
+use Rattle.std.proofs.Common.{◌≡◌, ◌+◌, ℕ, suc, List, [], ◌∷◌, ◌++◌, length, Option, Some, None, refl, sym, ◌∙◌, ap, arith, true, false, cond, not, Bool, nat_lt, ◌||◌}
 use Rattle.std.specs.Option.{option_map, is_some, IsSome}
 use Rattle.std.specs.Bool.{MatchBool}
 use Rattle.std.specs.List.{position, position_or_len, list_any}
@@ -25,27 +24,27 @@ position-cons p x xs =
     ] refl
 
 -- the table's look-up
-pub place_of-is : (name : List ℕ) (keys : List (Bor (List ℕ))) → position (λ y. bytes_eq name y.now) keys ≡ place_of name (map (λ k. k.now) keys)
+pub place_of-is : (name : List ℕ) (keys : List (List ℕ)) → position (bytes_eq name) keys ≡ place_of name keys
 place_of-is name [] = grind (arith, nat_tests)
-place_of-is name (k ∷ keys) = position-cons (λ y. bytes_eq name y.now) k keys ∙ ap (λ (o : Option ℕ). cond {A = Option ℕ} (bytes_eq name k.now) (Some 0) (option_map suc o)) (place_of-is name keys)
+place_of-is name (k ∷ keys) = position-cons (bytes_eq name) k keys ∙ ap (λ (o : Option ℕ). cond {A = Option ℕ} (bytes_eq name k) (Some 0) (option_map suc o)) (place_of-is name keys)
 
 is_some-map : {A B : Type 0} (f : A → B) (o : Option A) → is_some (option_map f o) ≡ is_some o
 is_some-map f None = refl
 is_some-map f (Some x) = refl
 
 -- whether the table has a name
-pub list_any-is : (name : List ℕ) (keys : List (Bor (List ℕ))) → list_any (λ y. bytes_eq name y.now) keys ≡ is_some (place_of name (map (λ k. k.now) keys))
+list_any-is : (name : List ℕ) (keys : List (List ℕ)) → list_any (bytes_eq name) keys ≡ is_some (place_of name keys)
 list_any-is name [] = refl
 list_any-is name (k ∷ keys) =
-    elim (bytes_eq name k.now) as (λ b. (b || list_any (λ y. bytes_eq name y.now) keys) ≡ is_some (cond {A = Option ℕ} b (Some 0) (option_map suc (place_of name (map (λ k. k.now) keys))))) [
+    elim (bytes_eq name k) as (λ b. (b || list_any (bytes_eq name) keys) ≡ is_some (cond {A = Option ℕ} b (Some 0) (option_map suc (place_of name keys)))) [
       | true ↦ refl
-      | false ↦ list_any-is name keys ∙ sym (is_some-map suc (place_of name (map (λ k. k.now) keys)))
+      | false ↦ list_any-is name keys ∙ sym (is_some-map suc (place_of name keys))
     ]
 
 -- what adding a name leaves
-pub added : (name : Bor (List ℕ)) (old new : List (Bor (List ℕ))) (answer : Bool) → answer ≡ not (list_any (λ y. bytes_eq name.now y.now) old) → new ≡ cond (list_any (λ y. bytes_eq name.now y.now) old) old (old ++ name ∷ [])
-    → MatchBool answer ((place_of name.now (map (λ k. k.now) old) ≡ None) × (map (λ k. k.now) new ≡ map (λ k. k.now) old ++ name.now ∷ [])) (IsSome (place_of name.now (map (λ k. k.now) old)) × (map (λ k. k.now) new ≡ map (λ k. k.now) old))
-added name old new answer is after = go (list_any (λ y. bytes_eq name.now y.now) old) (list_any-is name.now old) is after
+pub added : (name : List ℕ) (old new : List (List ℕ)) (answer : Bool) → answer ≡ not (list_any (bytes_eq name) old) → new ≡ cond (list_any (bytes_eq name) old) old (old ++ name ∷ [])
+    → MatchBool answer ((place_of name old ≡ None) × (new ≡ old ++ name ∷ [])) (IsSome (place_of name old) × (new ≡ old))
+added name old new answer is after = go (list_any (bytes_eq name) old) (list_any-is name old) is after
   where
     none_of : (o : Option ℕ) → false ≡ is_some o → o ≡ None
     none_of None e = refl
@@ -55,7 +54,7 @@ added name old new answer is after = go (list_any (λ y. bytes_eq name.now y.now
     some_of None e = cc
     some_of (Some x) e = refl
 
-    go : (there : Bool) → there ≡ is_some (place_of name.now (map (λ k. k.now) old)) → answer ≡ not there → new ≡ cond there old (old ++ name ∷ [])
-        → MatchBool answer ((place_of name.now (map (λ k. k.now) old) ≡ None) × (map (λ k. k.now) new ≡ map (λ k. k.now) old ++ name.now ∷ [])) (IsSome (place_of name.now (map (λ k. k.now) old)) × (map (λ k. k.now) new ≡ map (λ k. k.now) old))
-    go true found e n = rw e (some_of _ found, ap (map (λ k. k.now)) n)
-    go false found e n = rw e (none_of _ found, ap (map (λ k. k.now)) n ∙ map-append (λ k. k.now) old (name ∷ []))
+    go : (there : Bool) → there ≡ is_some (place_of name old) → answer ≡ not there → new ≡ cond there old (old ++ name ∷ [])
+        → MatchBool answer ((place_of name old ≡ None) × (new ≡ old ++ name ∷ [])) (IsSome (place_of name old) × (new ≡ old))
+    go true found e n = rw e (some_of _ found, n)
+    go false found e n = rw e (none_of _ found, n)

@@ -1,6 +1,7 @@
 //! Names in order, found by their bytes: each name has its place as its number.
 #![tactic(auto)]
 
+mod key;
 mod repeat;
 mod table;
 

@@ -1,6 +1,7 @@
-ghost use Rattle.std.specs.Prelude.{◌≡◌, ◌++◌, ◌∷◌, [], map, IfOk, OnErr, MatchBool, IsNone, IsSome, IfSome, ◌<◌, length};
+ghost use Rattle.std.specs.Prelude.{◌≡◌, ◌++◌, ◌∷◌, [], IfOk, OnErr, MatchBool, IsNone, IsSome, IfSome, ◌<◌, length};
 ghost use Rattle.name_table.specs.Names.{place_of};
 
+use crate::key::Key;
 use indexmap::IndexSet;
 use std::alloc::Global;
 use std::marker::Model;
@@ -9,15 +10,15 @@ use wx_base::NoMemory;
 /// Different names, each with its place.
 #[derive(Drop)]
 pub struct NameTable<'a> {
-    names: IndexSet<&'a [u8]>,
+    names: IndexSet<Key<'a>>,
 }
 
 impl<'a> Model for NameTable<'a> {
-    ghost use Rattle.std.specs.Prelude.{List, ℕ, map};
+    ghost use Rattle.std.specs.Prelude.{List, ℕ};
 
     ghost Value = { List (List ℕ) };
 
-    ghost view = { λ t. map (λ name. name.now) t.names.keys };
+    ghost view = { λ t. t.names.keys };
 }
 
 impl<'a> NameTable<'a> {
@@ -37,7 +38,7 @@ impl<'a> NameTable<'a> {
             (IsSome (place_of name.now self.old) × (self.new ≡ self.old))) }
         ensures err { OnErr result (self.new ≡ self.old) }
     {
-        Ok(self.names.insert(name)?)
+        Ok(self.names.insert(Key::new(name))?)
     }
 
     /// The place of a name.
@@ -45,7 +46,7 @@ impl<'a> NameTable<'a> {
         ensures place { result ≡ place_of name.now self.now }
         ensures within { IfSome result (λ place. place < length self.now) }
     {
-        self.names.get_index_of(&name)
+        self.names.get_index_of(&Key::new(name))
     }
 
     /// How many names there are.
