@@ -14,6 +14,7 @@ pub mod SextLaws
 pub mod SignLaws
 pub mod SumLaws
 pub mod SumPieceLaws
+pub mod TruncLaws
 pub mod WrapLaws
 pub mod WrappedLaws
 pub mod ZextLaws

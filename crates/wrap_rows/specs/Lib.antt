@@ -6,6 +6,7 @@ pub mod Ranged
 pub mod Select
 pub mod Sext
 pub mod Sum
+pub mod Trunc
 pub mod Vars
 pub mod Wrapping
 pub mod Zext
