@@ -16,6 +16,7 @@ pub mod ShiftRightLaws
 pub mod SignLaws
 pub mod SumLaws
 pub mod SumPieceLaws
+pub mod TruncLaws
 pub mod WrapLaws
 pub mod WrappedLaws
 pub mod ZextLaws

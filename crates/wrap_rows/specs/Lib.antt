@@ -8,6 +8,7 @@ pub mod Select
 pub mod Sext
 pub mod ShiftRight
 pub mod Sum
+pub mod Trunc
 pub mod Vars
 pub mod Wrapping
 pub mod Zext

@@ -1,12 +1,14 @@
 // What pieces share whose number is an exact result modulo `2^width`.
-ghost use Rattle.std.specs.Prelude.{◌≡◌, ◌-◌, ◌^◌, ◌≤◌, ◌≤ℤ◌, ◌<ℤ◌, pos, neg_ℤ, take, drop, length, unsigned_abs};
+ghost use Rattle.std.specs.Prelude.{◌≡◌, ◌-◌, ◌^◌, ◌≤◌, ◌≤ℤ◌, ◌<ℤ◌, ◌-ℤ◌, pos, neg_ℤ, take, drop, length, unsigned_abs};
 ghost use Rattle.ir_meaning.specs.Whole.{IsWidth, signed, is_unsigned, is_signed};
 ghost use Rattle.wrap_rows.specs.Vars.{IsNumber};
+ghost use Rattle.wrap_rows.specs.Layout.{at_most};
 ghost use Rattle.wrap_rows.specs.Wrapping.{listed, bars};
 
+use crate::at_most;
 use crate::blocks::power;
 use ll_tree::Flags;
-use mix_system::Lit;
+use mix_system::{Lit, Term};
 
 /// The literals that flags list. The first so many are those of `nuw`, the others those of `nsw`.
 pub fn listed(flags: Flags, leaving: usize, lits: &[Lit]) -> &[Lit]
@@ -17,6 +19,14 @@ pub fn listed(flags: Flags, leaving: usize, lits: &[Lit]) -> &[Lit]
     let from = if flags.nuw { 0 } else { leaving };
     let to = if flags.nsw { lits.len() } else { leaving };
     &lits[from..to]
+}
+
+/// A row's sum lies below the signed numbers of the width.
+pub fn below_signed(width: u32, row: Term) -> Lit
+    requires { IsWidth width }
+    ensures { result ≡ at_most row (neg_ℤ (pos (2 ^ (width - 1))) -ℤ pos 1) }
+{
+    at_most(row, -power(width - 1) - 1)
 }
 
 /// Whether a flag bars an exact result, given the exact result of the signed readings.
