@@ -2,6 +2,7 @@ pub mod Accepted
 pub mod Causes
 pub mod Edge
 pub mod FuncMachine
+pub mod Priced
 pub mod Promises
 pub mod Steps
 pub mod Trial

@@ -36,7 +36,7 @@ pub(crate) fn run_on(
         IfOk result (EndsSo sound.now.func by_label args) }
 {
     let numbers = numbers_of(alloc, args.items())?;
-    let priced = Priced::new(sound, costs);
+    let priced = Priced::new(alloc, sound, costs)?;
     let mut runner = Runner::new(alloc, sound)?;
     match runner.run(&numbers, &priced) {
         RunEnd::Done { result, cost } => {

@@ -42,7 +42,7 @@ impl<'a> FuncMachine<'a> {
             machine ≡ record { func = sound.now.func; costs = costs.now }) }
     {
         let runner = Runner::new(alloc, sound)?;
-        let priced = Priced::new(sound, costs);
+        let priced = Priced::new(alloc, sound, costs)?;
         Ok(FuncMachine { runner, priced })
     }
 }

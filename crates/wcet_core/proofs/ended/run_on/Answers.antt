@@ -23,5 +23,5 @@ returns-in_ok-path-in-Done c =
     let along : path_labels c.run.new.self ≡ c.in_ok-path-in-Done.path = (λ i. labels_at ((c.in-Done.ensures.func ∙ of) i) (sym c.path.ensures i)) ∙ sym c.in_ok-path-in-Done.ensures in (
       refl,
       done_run func (costs_by_label func c.args.costs.now) c.args.args c.in_ok-path-in-Done.path c.in-Done.result c.in-Done.cost c.requires.widths
-          (moved func c.in_ok-runner.runner.func c.args.costs.now c.new-priced.result c.deref.result.now (numbers_of c.args.args) (path_labels c.run.new.self) c.in_ok-path-in-Done.path (Done c.in-Done.result c.in-Done.cost) of c.new-priced.ensures.is numbers along c.in-Done.ensures.answer),
+          (moved func c.in_ok-runner.runner.func c.args.costs.now c.in_ok-priced.priced c.deref.result.now (numbers_of c.args.args) (path_labels c.run.new.self) c.in_ok-path-in-Done.path (Done c.in-Done.result c.in-Done.cost) of c.in_ok-priced.ensures.is numbers along c.in-Done.ensures.answer),
     )
