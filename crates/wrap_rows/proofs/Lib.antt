@@ -6,6 +6,7 @@ pub mod LayoutLaws
 pub mod LinearLaws
 pub mod MarkLaws
 pub mod MarkedLaws
+pub mod PhiLaws
 pub mod PlaceLaws
 pub mod PutLaws
 pub mod RangedLaws

@@ -2,6 +2,7 @@ pub mod Blocks
 pub mod Compare
 pub mod Layout
 pub mod Normal
+pub mod Phi
 pub mod Piece
 pub mod Ranged
 pub mod Select

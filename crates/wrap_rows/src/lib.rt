@@ -8,6 +8,7 @@ mod compare;
 mod laws;
 mod marks;
 mod normal;
+mod phi;
 mod piece;
 mod ranged;
 mod select;
@@ -27,6 +28,7 @@ pub use laws::{
 };
 pub use marks::{add_marks, at_least, at_most, times};
 pub use normal::{add_lits, add_sum};
+pub use phi::{Incoming, Phi};
 pub use piece::Piece;
 pub use ranged::Ranged;
 pub use select::Select;
