@@ -103,7 +103,8 @@ impl Bitwise {
     // How many bits have helpers.
     fn helper_count(&self) -> u32
         requires { IsWidth self.now.width }
-        ensures { result ≡ helper_count self.now.a.literal self.now.width + helper_count self.now.b.literal self.now.width + self.now.width }
+        ensures { result ≡ helper_count self.now.a.literal self.now.width
+            + helper_count self.now.b.literal self.now.width + self.now.width }
     {
         self.a.helper_count(self.width) + self.b.helper_count(self.width) + self.width
     }
@@ -145,9 +146,11 @@ impl Bitwise {
     fn add_excess(&self, alloc: Global, first: u32, into: &mut System) -> Result<(), NoMemory>
         requires at { IsAt self.now first }
         requires known { first < length into.old.ranges }
-        requires rows { length into.old.rows + length (excess_rows (is_disjoint self.now.kind self.now.flags) self.now first) < 2 ^ 31 }
+        requires rows { length into.old.rows + length (excess_rows
+            (is_disjoint self.now.kind self.now.flags) self.now first) < 2 ^ 31 }
         ensures { OnOk result (into.new ≡ record into.old {
-          rows = into.old.rows ++ map row_of (excess_rows (is_disjoint self.now.kind self.now.flags) self.now first);
+          rows = into.old.rows ++ map row_of
+              (excess_rows (is_disjoint self.now.kind self.now.flags) self.now first);
         }) }
     {
         if !self.is_disjoint() {
@@ -172,11 +175,14 @@ impl Bitwise {
     ) -> Result<(), NoMemory>
         requires at { IsAt self.now mark }
         requires known { mark < length into.old.ranges }
-        requires row { row + length (excess_rows (is_disjoint self.now.kind self.now.flags) self.now mark) ≤ length into.old.rows }
+        requires row { row + length (excess_rows
+            (is_disjoint self.now.kind self.now.flags) self.now mark) ≤ length into.old.rows }
         requires few { length into.old.rows < 2 ^ 31 }
-        requires room { length into.old.clauses + length (mark_clauses (is_disjoint self.now.kind self.now.flags) self.now mark row) < 2 ^ 31 }
+        requires room { length into.old.clauses + length (mark_clauses
+            (is_disjoint self.now.kind self.now.flags) self.now mark row) < 2 ^ 31 }
         ensures { OnOk result (into.new ≡ record into.old {
-          clauses = into.old.clauses ++ map clause_of (mark_clauses (is_disjoint self.now.kind self.now.flags) self.now mark row);
+          clauses = into.old.clauses ++ map clause_of
+              (mark_clauses (is_disjoint self.now.kind self.now.flags) self.now mark row);
         }) }
     {
         let operands = [self.a.vars.mark, self.b.vars.mark];
@@ -303,10 +309,13 @@ impl BitOperand {
         requires known { first + helper_count self.now.literal width ≤ length into.old.ranges }
         requires few_vars { length into.old.ranges < 2 ^ 31 }
         requires rows { length into.old.rows + row_count self.now.literal < 2 ^ 31 }
-        requires clauses { length into.old.clauses + length (operand_clauses self.now.literal 0) < 2 ^ 31 }
+        requires clauses { length into.old.clauses
+            + length (operand_clauses self.now.literal 0) < 2 ^ 31 }
         ensures { OnOk result (into.new ≡ record into.old {
-          rows = into.old.rows ++ map row_of (operand_rows self.now.literal width self.now.vars.number first);
-          clauses = into.old.clauses ++ map clause_of (operand_clauses self.now.literal (length into.old.rows));
+          rows = into.old.rows ++ map row_of
+              (operand_rows self.now.literal width self.now.vars.number first);
+          clauses = into.old.clauses ++ map clause_of
+              (operand_clauses self.now.literal (length into.old.rows));
         }) }
     {
         match self.literal {
