@@ -1,0 +1,5 @@
+pub mod Abs
+pub mod Division
+pub mod Extreme
+pub mod Unless
+pub mod UnsignedDivision
