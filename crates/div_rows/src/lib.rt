@@ -7,11 +7,13 @@ mod abs;
 mod division;
 mod extreme;
 mod reading;
+mod signed_division;
 mod unless;
 mod unsigned_division;
 
 pub use abs::Abs;
 pub use division::DivisionKind;
 pub use extreme::{Extreme, ExtremeKind};
+pub use signed_division::SignedDivision;
 pub use unless::{add_equation_unless, what_an_equation_with_an_exception_says};
 pub use unsigned_division::UnsignedDivision;
