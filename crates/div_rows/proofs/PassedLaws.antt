@@ -2,7 +2,7 @@
 use Rattle.std.proofs.Common.{◌≡◌, ◌≢◌, ℕ, zero, suc, ◌^◌, ◌<◌, ◌≤◌, ℤ, pos, ◌+ℤ◌, FitsSigned, to_z, of_z, refl, sym, ap, ◌∙◌, arith}
 use Rattle.std.specs.Prelude.{unsigned_abs, int_div, int_rem}
 use Rattle.std.specs.Int.{w128}
-use Rattle.std.proofs.lemmas.Int.{ints, to_z-of_z, quot_is, rem_is, fits_signed_from_abs}
+use Rattle.std.proofs.lemmas.Int.{to_z-of_z, quot_is, rem_is, fits_signed_from_abs}
 use Rattle.ir_meaning.proofs.DivideLaws.{quotient_bound}
 
 abbrev pub passed : ℤ → ℤ

@@ -1,12 +1,12 @@
 -- The laws of the piece of a division of signed readings.
-use Rattle.std.proofs.Common.{◌≡◌, ℕ, suc, ◌+◌, ◌-◌, ◌*◌, ◌%◌, ◌^◌, ◌<◌, ◌≤◌, Bool, true, false, not, ◌&&◌, ◌||◌, ℤ, pos, negsuc, neg_ℤ, ◌+ℤ◌, ◌-ℤ◌, ◌*ℤ◌, ◌<ℤ◌, ◌≤ℤ◌, ◌⊎◌, List, [], ◌∷◌, ◌++◌, length, slice_set, refl, sym, ap, ◌∙◌, inl, inr, subst, arith}
+use Rattle.std.proofs.Common.{◌≡◌, ℕ, ◌+◌, ◌-◌, ◌%◌, ◌^◌, ◌<◌, ◌≤◌, Bool, true, false, not, ◌&&◌, ◌||◌, ℤ, pos, negsuc, neg_ℤ, ◌+ℤ◌, ◌-ℤ◌, ◌*ℤ◌, ◌<ℤ◌, ◌≤ℤ◌, ◌⊎◌, List, [], ◌∷◌, ◌++◌, length, slice_set, refl, sym, ap, ◌∙◌, inl, inr, subst, arith}
 use Rattle.std.specs.Prelude.{◌↔◌, int_lt, int_div, int_rem, unsigned_abs}
 use Rattle.std.specs.Ordering.{int_eq}
 use Rattle.std.proofs.Math.IntN.{*ℤ-zero}
 use Rattle.std.proofs.Math.ListN.{length-set}
 use Rattle.std.proofs.Math.Nat.{mod-eq_of_lt, pow-le-pow_right}
 use Rattle.std.proofs.lemmas.Int.{ints, by_lt_z}
-use Rattle.mix_system.specs.declared.literal.Term.TheVariants.{Var, Row}
+use Rattle.mix_system.specs.declared.literal.Term.TheVariants.{Row}
 use Rattle.mix_system.specs.declared.row.Part.{Part}
 use Rattle.mix_system.specs.Fits.{IsTrueAt, term_value}
 use Rattle.mix_system.specs.Row.{number_at}
@@ -19,7 +19,7 @@ use Rattle.wrap_rows.specs.Layout.{Holds}
 use Rattle.wrap_rows.specs.Blocks.{equals, marks, sign_clauses, sign_of}
 use Rattle.wrap_rows.specs.Vars.{IsMark, IsNumber, IsValue, value_at}
 use Rattle.wrap_rows.specs.Piece.{put_from, AreIn, names_own_rows, mark_of}
-use Rattle.wrap_rows.proofs.CaseLaws.{by_test, Each, Some_of, without_first, only}
+use Rattle.wrap_rows.proofs.CaseLaws.{by_test, Some_of, without_first, only}
 use Rattle.wrap_rows.proofs.BlockLaws.{mark_cases, each-said, all-true, Each-append, Each-left, Each-right, equals-said, equals-true}
 use Rattle.wrap_rows.proofs.SignLaws.{sign-law}
 use Rattle.wrap_rows.proofs.LinearLaws.{once, times_one, less_once}
@@ -33,7 +33,7 @@ use Rattle.div_rows.specs.declared.division.DivisionKind.{DivisionKind}
 use Rattle.div_rows.specs.declared.division.DivisionKind.TheVariants.{Quotient, Remainder}
 use Rattle.div_rows.specs.declared.signed_division.SignedDivision.{SignedDivision}
 use Rattle.div_rows.specs.Division.{is_exact, chosen}
-use Rattle.div_rows.specs.SignedDivision.{IsAt, vars, reading, size, sign_at, quotient_at, remainder_at, lift_at, ranges, rows_of, side_clauses, listed, mark_clauses, value_clauses, layout_of, layout, IsSigned, quotient_of, remainder_of, result_of, is_barred, is_poison, numbers, CanTake, division_of, meaning}
+use Rattle.div_rows.specs.SignedDivision.{IsAt, vars, reading, size, sign_at, quotient_at, remainder_at, lift_at, ranges, rows_of, side_clauses, listed, mark_clauses, layout_of, layout, IsSigned, is_barred, is_poison, numbers, CanTake, division_of, meaning}
 use Rattle.div_rows.proofs.DivisionLaws.{IsDivided, divided-said, divided-true}
 use Rattle.div_rows.proofs.SignedLaws.{half_of, cases_of, reading_by, IsWithin, reading_some, size_some, quotient_in, remainder_is, remainder_small, remainder_in}
 

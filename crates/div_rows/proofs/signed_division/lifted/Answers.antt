@@ -1,4 +1,4 @@
-use Rattle.std.proofs.Common.{◌≡◌, ◌+ℤ◌, ◌^◌, ◌<◌, ◌≤◌, pos, FitsSigned, rules, sym, ap, ◌∙◌, arith}
+use Rattle.std.proofs.Common.{◌+ℤ◌, ◌^◌, ◌<◌, ◌≤◌, FitsSigned, rules, sym, ap, ◌∙◌, arith}
 use Rattle.std.specs.Prelude.{unsigned_abs}
 use Rattle.std.specs.Int.{w128}
 use Rattle.std.proofs.Math.Nat.{pow-le-pow_right}

@@ -1,11 +1,11 @@
-use Rattle.std.proofs.Common.{◌≡◌, ◌∷◌, [], pos, to_z, of_z, rules, ap, ◌∙◌}
+use Rattle.std.proofs.Common.{◌≡◌, pos, to_z, of_z, rules, ◌∙◌}
 use Rattle.std.specs.Prelude.{int_lt}
 use Rattle.std.specs.Int.{w128}
 use Rattle.std.proofs.lemmas.Int.{to_z-of_z}
 use Rattle.mix_system.specs.Row.{number_at}
 use Rattle.ir_meaning.specs.Whole.{modulo}
 use Rattle.wrap_rows.specs.Blocks.{sign_of}
-use Rattle.wrap_rows.specs.Piece.{put_from, mark_of}
+use Rattle.wrap_rows.specs.Piece.{mark_of}
 use Rattle.div_rows.specs.SignedDivision.{quotient_of, remainder_of, result_of, is_poison}
 use Rattle.div_rows.proofs.SignedDivisionLaws.{puts_six}
 use Rattle.div_rows.proofs.signed_division.SignedDivision.put.Goals as goal

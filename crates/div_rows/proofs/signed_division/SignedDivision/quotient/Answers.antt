@@ -1,4 +1,4 @@
-use Rattle.std.proofs.Common.{◌≡◌, ◌^◌, ◌<◌, ◌≤◌, sym, ap₂, ◌∙◌, subst, arith}
+use Rattle.std.proofs.Common.{◌^◌, ◌<◌, sym, ap₂, ◌∙◌, subst, arith}
 use Rattle.std.specs.Prelude.{unsigned_abs, int_div}
 use Rattle.std.proofs.lemmas.Int.{ints}
 use Rattle.mix_system.specs.Row.{number_at}

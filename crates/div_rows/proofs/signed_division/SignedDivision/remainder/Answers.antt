@@ -1,4 +1,4 @@
-use Rattle.std.proofs.Common.{◌≡◌, ◌^◌, sym, ap₂, ◌∙◌, subst}
+use Rattle.std.proofs.Common.{◌^◌, sym, ap₂, ◌∙◌, subst}
 use Rattle.std.specs.Prelude.{unsigned_abs, int_rem}
 use Rattle.mix_system.specs.Row.{number_at}
 use Rattle.div_rows.specs.SignedDivision.{IsSigned}
