@@ -1,6 +1,7 @@
 pub mod BlockLaws
 pub mod CaseLaws
 pub mod ClauseLaws
+pub mod CompactLaws
 pub mod CompareLaws
 pub mod LayoutLaws
 pub mod LinearLaws
@@ -15,6 +16,7 @@ pub mod SelectLaws
 pub mod SextLaws
 pub mod ShiftRightLaws
 pub mod SignLaws
+pub mod SmallLaws
 pub mod SumLaws
 pub mod SumPieceLaws
 pub mod TruncLaws

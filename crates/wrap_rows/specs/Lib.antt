@@ -8,6 +8,7 @@ pub mod Ranged
 pub mod Select
 pub mod Sext
 pub mod ShiftRight
+pub mod Small
 pub mod Sum
 pub mod Trunc
 pub mod Vars

@@ -23,7 +23,7 @@ mod zext;
 pub use blocks::{add_equation, add_sign, gap, greatest, is_marked, mark_of, power, sign_of};
 pub use compare::Compare;
 pub use laws::{
-    what_a_comparison_says, what_a_sign_says, what_an_equation_says,
+    what_a_comparison_says, what_a_sign_says, what_an_equation_says, what_is_compact_is_calm,
     what_is_laid_says_what_the_layout_says, what_marks_say,
 };
 pub use marks::{add_marks, at_least, at_most, times};
