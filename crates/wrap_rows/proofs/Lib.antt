@@ -3,6 +3,7 @@ pub mod CaseLaws
 pub mod ClauseLaws
 pub mod CompactLaws
 pub mod CompareLaws
+pub mod LayLaws
 pub mod LayoutLaws
 pub mod LinearLaws
 pub mod MarkLaws
@@ -12,8 +13,10 @@ pub mod PlaceLaws
 pub mod PutLaws
 pub mod RangedLaws
 pub mod ReadLaws
+pub mod ScaledLaws
 pub mod SelectLaws
 pub mod SextLaws
+pub mod ShiftOutLaws
 pub mod ShiftRightLaws
 pub mod SignLaws
 pub mod SmallLaws

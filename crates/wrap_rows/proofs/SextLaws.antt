@@ -24,7 +24,7 @@ use Rattle.wrap_rows.specs.Piece.{put_from, AreIn, names_own_rows, mark_of}
 use Rattle.wrap_rows.specs.Sext.{IsAt, ranges, layout, vars, CanTake, number, numbers, meaning}
 use Rattle.wrap_rows.proofs.CaseLaws.{Each, Some_of, Each-from_All}
 use Rattle.wrap_rows.proofs.BlockLaws.{each-said, all-true, Each-append, equals-said, equals-true}
-use Rattle.wrap_rows.proofs.SignLaws.{sign-law}
+use Rattle.wrap_rows.proofs.SignLaws.{sign-law, sign_of-IsMark}
 use Rattle.wrap_rows.proofs.LinearLaws.{once, times_one, less_once}
 use Rattle.wrap_rows.proofs.PutLaws.{put-before, put-first, put-second}
 use Rattle.wrap_rows.proofs.ReadLaws.{not_both, mark_of-IsMark, reads_one}
@@ -114,13 +114,6 @@ filled_number from to a s room is_a sign =
       | inr lowered ↦ lowered_number from to (unsigned_abs a) a s room whole lowered below
     ]
 
-sign_is_mark : (width : ℕ) (a : ℤ) → IsMark (sign_of width a)
-sign_is_mark width a = by_cases (int_lt a (pos (2 ^ (width - 1))))
-  where
-    by_cases : (test : Bool) → IsMark (cond test (pos 0) (pos 1))
-    by_cases true = (omega (arith, ints), omega (arith, ints))
-    by_cases false = (omega (arith, ints), omega (arith, ints))
-
 pub complete : (sext : Sext) (first : ℕ) (point : List ℤ) → IsAt sext first → CanTake sext point → first + length (ranges sext) ≤ length point → AreIn first (ranges sext) (put_from first (numbers sext point) point) × Holds (layout sext first) (put_from first (numbers sext point) point)
 complete sext first point is_at takes within =
     let rows = (layout sext first).rows in
@@ -134,7 +127,7 @@ complete sext first point is_at takes within =
     let m : number_at new (first + 1) ≡ mark = put-second first (number sext point) mark (sign ∷ []) point (omega arith) in
     let s : number_at new (first + 1 + 1) ≡ sign = put-second (first + 1) mark sign [] (slice_set point first (number sext point)) (rw length-set (omega arith)) in
     let is_mark : IsMark (number_at new (first + 1)) = subst IsMark (sym m) (mark_of-IsMark (is_marked sext.a point)) in
-    let is_sign : IsMark (number_at new (first + 1 + 1)) = subst IsMark (sym s) (sign_is_mark sext.from a) in
+    let is_sign : IsMark (number_at new (first + 1 + 1)) = subst IsMark (sym s) (sign_of-IsMark sext.from a) in
     let is_operand : IsMark (number_at new sext.a.mark) = subst IsMark (sym kept_mark) takes.mark in
     let is_a : IsNumber sext.from (number_at new sext.a.number) = subst (IsNumber sext.from) (sym kept) takes.number in
     let filled = filled_number sext.from sext.to a sign (wider sext first is_at) takes.number refl in

@@ -5,8 +5,10 @@ pub mod Normal
 pub mod Phi
 pub mod Piece
 pub mod Ranged
+pub mod Scaled
 pub mod Select
 pub mod Sext
+pub mod ShiftOut
 pub mod ShiftRight
 pub mod Small
 pub mod Sum

@@ -10,11 +10,8 @@ use Rattle.wrap_rows.specs.Sum.{IsAt, coefficient, sign_coefficient, carry_range
 use Rattle.wrap_rows.proofs.CaseLaws.{Each, All-from_Each}
 use Rattle.wrap_rows.proofs.BlockLaws.{Each-append}
 use Rattle.wrap_rows.proofs.SmallLaws.{IsLight, power_small, negation_size, number_narrow, mark_narrow, Each-if, equation-short, marks-short, listed-of, leaving-listed, exceeding-listed, sign_row-light, sign_clauses-short, small-from}
+use Rattle.wrap_rows.proofs.SumPieceLaws.{coefficient_small}
 use Rattle.wrap_rows.proofs.sum.SumPiece.stays_calm.Goals as goal
-
-coefficient_size : (kind : SumKind) → unsigned_abs (coefficient kind) ≤ 1
-coefficient_size Plus = omega arith
-coefficient_size Minus = omega arith
 
 sign_coefficient_size : (kind : SumKind) (width : ℕ) → unsigned_abs (sign_coefficient kind width) ≤ 2 ^ width
 sign_coefficient_size Plus width = omega (arith, negation_size (pos (2 ^ width)))
@@ -29,10 +26,10 @@ module _ (sum : Sum) (first : ℕ) (is_at : IsAt sum first) where
   power = power_small sum.width is_at.width.greatest
 
   carry_light : IsLight (carry_row sum first)
-  carry_light = omega (arith, power, negation_size (pos (2 ^ sum.width)), coefficient_size sum.kind)
+  carry_light = omega (arith, power, negation_size (pos (2 ^ sum.width)), coefficient_small sum.kind)
 
   signed_light : (sign : ℕ) → IsLight (signed_row sum sign)
-  signed_light sign = omega (arith, power, negation_size (pos (2 ^ sum.width)), coefficient_size sum.kind, sign_coefficient_size sum.kind sum.width)
+  signed_light sign = omega (arith, power, negation_size (pos (2 ^ sum.width)), coefficient_small sum.kind, sign_coefficient_size sum.kind sum.width)
 
   signed_rows_light : (nsw : Bool) (sign : ℕ) → Each IsLight (signed_rows nsw sum sign)
   signed_rows_light true sign =
