@@ -17,7 +17,6 @@ use Rattle.ll_tree.specs.declared.op.Pred.{Pred}
 use Rattle.ll_tree.specs.declared.op.Pred.TheVariants.{Eq, Ne, Ugt, Uge, Ult, Ule, Sgt, Sge, Slt, Sle}
 use Rattle.ir_meaning.specs.Whole.{IsWidth, signed}
 use Rattle.ir_meaning.specs.Value.{poison_if}
-use Rattle.ir_meaning.specs.declared.value.Val.{Val}
 use Rattle.ir_meaning.specs.Compare.{holds, is_negative, cmp_on}
 use Rattle.wrap_rows.specs.declared.compare.Compare.{Compare}
 use Rattle.wrap_rows.specs.Layout.{Holds}

@@ -1,11 +1,10 @@
 -- What number and mark stand for, from what the clauses say of them.
-use Rattle.std.proofs.Common.{◌≡◌, ℕ, Bool, true, false, cond, ◌||◌, ◌&&◌, ℤ, pos, ◌<ℤ◌, ◌≤ℤ◌, ◌⊎◌, List, [], ◌∷◌, refl, sym, ap, ◌∙◌, inl, inr, arith}
+use Rattle.std.proofs.Common.{◌≡◌, ℕ, Bool, true, false, cond, ◌||◌, ◌&&◌, ℤ, pos, ◌<ℤ◌, ◌≤ℤ◌, ◌⊎◌, [], ◌∷◌, refl, sym, ap, ◌∙◌, inl, inr, arith}
 use Rattle.std.specs.Prelude.{◌↔◌, int_lt, int_le, unsigned_abs}
 use Rattle.std.specs.Ordering.{int_eq}
 use Rattle.std.proofs.lemmas.Int.{ints, by_lt_z}
 use Rattle.std.proofs.lemmas.Bool.Decides.{Decides-int_eq, not_from_Decides}
 use Rattle.ir_meaning.specs.declared.value.Val.{Val}
-use Rattle.ir_meaning.specs.declared.value.Val.TheVariants.{Poison, Num}
 use Rattle.ir_meaning.specs.Value.{poison_if, on_number, on_numbers}
 use Rattle.wrap_rows.specs.Vars.{IsMark}
 use Rattle.wrap_rows.specs.Piece.{mark_of}

@@ -1,23 +1,20 @@
 -- The laws of the piece of a product with a constant factor, or of a shift to the left by an amount below the width.
-use Rattle.std.proofs.Common.{◌≡◌, ℕ, zero, suc, ◌+◌, ◌-◌, ◌*◌, ◌/◌, ◌%◌, ◌^◌, ◌<◌, ◌≤◌, Bool, true, false, cond, ◌||◌, ℤ, pos, negsuc, neg_ℤ, ◌+ℤ◌, ◌-ℤ◌, ◌*ℤ◌, ◌<ℤ◌, ◌≤ℤ◌, ◌⊎◌, List, [], ◌∷◌, ◌++◌, length, length-append, append_assoc, map, slice_set, refl, sym, ap, ap₂, ◌∙◌, inl, inr, subst, arith}
+use Rattle.std.proofs.Common.{◌≡◌, ℕ, zero, suc, ◌+◌, ◌-◌, ◌*◌, ◌/◌, ◌%◌, ◌^◌, ◌<◌, ◌≤◌, Bool, true, false, ◌||◌, ℤ, pos, neg_ℤ, ◌+ℤ◌, ◌-ℤ◌, ◌*ℤ◌, ◌⊎◌, List, [], ◌∷◌, ◌++◌, length, length-append, append_assoc, map, refl, sym, ap, ap₂, ◌∙◌, inl, inr, subst, arith}
 use Rattle.std.specs.Prelude.{◌↔◌, unsigned_abs}
 use Rattle.std.specs.Ordering.{int_eq}
 use Rattle.std.proofs.Math.IntN.{*ℤ_comm}
-use Rattle.std.proofs.Math.ListN.{length-set}
-use Rattle.std.proofs.Math.Nat.{mul_comm, mul-lt-mul_of_pos_right, pow-le-pow_right}
+use Rattle.std.proofs.Math.Nat.{mul_comm, mul-lt-mul_of_pos_right}
 use Rattle.std.proofs.lemmas.Int.{ints}
 use Rattle.std.proofs.lemmas.List.{length-map}
 use Rattle.std.proofs.lemmas.Nat.{pow_pos, div-add-mod', mod_below, div_below}
 use Rattle.mix_system.specs.declared.literal.Lit.{Lit}
-use Rattle.mix_system.specs.declared.literal.Term.TheVariants.{Var, Row}
+use Rattle.mix_system.specs.declared.literal.Term.TheVariants.{Row}
 use Rattle.mix_system.specs.declared.row.Part.{Part}
 use Rattle.mix_system.specs.Fits.{IsTrueAt, IsInRange, term_value}
-use Rattle.mix_system.specs.Row.{number_at, row_value}
+use Rattle.mix_system.specs.Row.{number_at}
 use Rattle.mix_system.specs.System.{System}
 use Rattle.mix_system.proofs.SizeLaws.{unsigned_abs-le}
 use Rattle.mix_system.proofs.ProductLaws.{*ℤ-add, *ℤ-neg_ℤ, neg_ℤ-*ℤ, *ℤ_assoc}
-use Rattle.ll_tree.specs.declared.op.Flags.{Flags}
-use Rattle.ir_meaning.specs.declared.value.Val.{Val}
 use Rattle.ir_meaning.specs.Whole.{IsWidth, signed}
 use Rattle.ir_meaning.specs.Value.{poison_if}
 use Rattle.ir_meaning.specs.Rows.{wrapped, mul_of, shl_of}
@@ -30,9 +27,9 @@ use Rattle.wrap_rows.specs.Layout.{Holds, clause_from}
 use Rattle.wrap_rows.specs.Blocks.{equals, marks, sign_row, sign_clauses, sign_of}
 use Rattle.wrap_rows.specs.Vars.{IsMark, IsNumber, value_at}
 use Rattle.wrap_rows.specs.Piece.{Lays, put_from, AreIn, names_own_rows, mark_of}
-use Rattle.wrap_rows.specs.Wrapping.{leaving, exceeding, listed, bars}
+use Rattle.wrap_rows.specs.Wrapping.{bars}
 use Rattle.wrap_rows.specs.Scaled.{IsScale, factor, signed_factor, IsAt, vars, sign_ranges, ranges, carry_row, signed_row, signed_rows, signed_clauses, operands_of, operands, literals, layout_of, layout, exact, exact_signed, barred, is_poison, sign_numbers, numbers, CanTake, constant_value, scaled_value, meaning}
-use Rattle.wrap_rows.proofs.CaseLaws.{by_test, Each, Some_of}
+use Rattle.wrap_rows.proofs.CaseLaws.{Each, Some_of}
 use Rattle.wrap_rows.proofs.BlockLaws.{each-said, all-true, Each-append, Each-left, Each-right, equals-said, equals-true}
 use Rattle.wrap_rows.proofs.SignLaws.{half_of, sign-law, sign_of-IsMark}
 use Rattle.wrap_rows.proofs.LinearLaws.{less_once}

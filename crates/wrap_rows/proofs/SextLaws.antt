@@ -1,5 +1,5 @@
 -- The laws of a sign extension's piece.
-use Rattle.std.proofs.Common.{◌≡◌, ℕ, suc, ◌+◌, ◌-◌, ◌*◌, ◌^◌, ◌<◌, ◌≤◌, Bool, true, false, cond, ◌||◌, ℤ, pos, neg_ℤ, ◌+ℤ◌, ◌-ℤ◌, ◌*ℤ◌, ◌<ℤ◌, ◌≤ℤ◌, ◌⊎◌, List, [], ◌∷◌, ◌++◌, length, slice_set, refl, sym, ap, ◌∙◌, inl, inr, subst, arith}
+use Rattle.std.proofs.Common.{◌≡◌, ℕ, ◌+◌, ◌-◌, ◌^◌, ◌<◌, ◌≤◌, Bool, true, false, cond, ◌||◌, ℤ, pos, neg_ℤ, ◌+ℤ◌, ◌-ℤ◌, ◌*ℤ◌, ◌<ℤ◌, ◌≤ℤ◌, List, [], ◌∷◌, ◌++◌, length, slice_set, refl, sym, ap, ◌∙◌, inl, inr, subst, arith}
 use Rattle.std.specs.Prelude.{◌↔◌, int_lt, unsigned_abs}
 use Rattle.std.specs.Ordering.{int_eq}
 use Rattle.std.proofs.Math.IntN.{*ℤ-zero}
@@ -7,13 +7,11 @@ use Rattle.std.proofs.Math.ListN.{length-set}
 use Rattle.std.proofs.Math.Nat.{pow-le-pow_right}
 use Rattle.std.proofs.lemmas.Int.{ints}
 use Rattle.std.proofs.lemmas.Nat.{pow_pos}
-use Rattle.mix_system.specs.declared.literal.Term.TheVariants.{Var, Row}
-use Rattle.mix_system.specs.declared.literal.Lit.{Lit}
+use Rattle.mix_system.specs.declared.literal.Term.TheVariants.{Row}
 use Rattle.mix_system.specs.declared.row.Part.{Part}
 use Rattle.mix_system.specs.Fits.{IsTrueAt, term_value}
 use Rattle.mix_system.specs.Row.{number_at}
-use Rattle.ir_meaning.specs.Whole.{IsWidth, signed, modulo}
-use Rattle.ir_meaning.specs.Value.{poison_if}
+use Rattle.ir_meaning.specs.Whole.{signed, modulo}
 use Rattle.ir_meaning.specs.declared.value.Val.TheVariants.{Num}
 use Rattle.ir_meaning.specs.Rows.{sext_of}
 use Rattle.wrap_rows.specs.declared.sext.Sext.{Sext}
@@ -22,7 +20,7 @@ use Rattle.wrap_rows.specs.Blocks.{equals, marks, sign_clauses, sign_of}
 use Rattle.wrap_rows.specs.Vars.{IsMark, IsNumber, is_marked, value_at}
 use Rattle.wrap_rows.specs.Piece.{put_from, AreIn, names_own_rows, mark_of}
 use Rattle.wrap_rows.specs.Sext.{IsAt, ranges, layout, vars, CanTake, number, numbers, meaning}
-use Rattle.wrap_rows.proofs.CaseLaws.{Each, Some_of, Each-from_All}
+use Rattle.wrap_rows.proofs.CaseLaws.{Some_of}
 use Rattle.wrap_rows.proofs.BlockLaws.{each-said, all-true, Each-append, equals-said, equals-true}
 use Rattle.wrap_rows.proofs.SignLaws.{sign-law, sign_of-IsMark}
 use Rattle.wrap_rows.proofs.LinearLaws.{once, times_one, less_once}

@@ -1,10 +1,9 @@
 -- The laws of the piece of a shift by the width or more.
-use Rattle.std.proofs.Common.{◌≡◌, ℕ, ◌+◌, ◌-◌, ◌^◌, ◌<◌, ◌≤◌, Bool, true, false, nat_lt, ◌||◌, ℤ, pos, List, [], ◌∷◌, length, refl, sym, ap, ◌∙◌, inl, inr, arith}
+use Rattle.std.proofs.Common.{◌≡◌, ℕ, ◌+◌, ◌≤◌, Bool, true, false, nat_lt, ℤ, pos, List, [], ◌∷◌, length, refl, sym, ap, ◌∙◌, inl, arith}
 use Rattle.std.specs.Prelude.{nat_le, unsigned_abs}
 use Rattle.std.specs.Ordering.{int_eq}
 use Rattle.std.proofs.lemmas.Bool.Decides.{nat_tests}
 use Rattle.std.proofs.lemmas.Int.{ints}
-use Rattle.std.proofs.lemmas.Nat.{pow_pos}
 use Rattle.mix_system.specs.Fits.{IsTrueAt}
 use Rattle.mix_system.specs.Row.{number_at}
 use Rattle.ll_tree.specs.declared.op.Flags.{Flags}

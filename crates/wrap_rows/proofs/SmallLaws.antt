@@ -9,9 +9,9 @@ use Rattle.std.proofs.lemmas.Int.{ints}
 use Rattle.mix_system.specs.declared.literal.Side.{Side}
 use Rattle.mix_system.specs.declared.literal.Side.TheVariants.{Le, Ge}
 use Rattle.mix_system.specs.declared.literal.Lit.{Lit}
-use Rattle.mix_system.specs.declared.literal.Term.TheVariants.{Var, Row}
+use Rattle.mix_system.specs.declared.literal.Term.TheVariants.{Var}
 use Rattle.mix_system.specs.declared.row.Part.{Part}
-use Rattle.mix_system.specs.Lit.{negation, negated_bound}
+use Rattle.mix_system.specs.Lit.{negated_bound}
 use Rattle.mix_system.proofs.SizeLaws.{unsigned_abs-add}
 use Rattle.ir_meaning.specs.Whole.{IsWidth}
 use Rattle.wrap_rows.specs.Normal.{sizes}

@@ -1,7 +1,6 @@
 -- The law of wrapping: a number and a carry that make up an exact result, and what the flags bar.
 use Rattle.std.proofs.Common.{◌≡◌, ℕ, zero, suc, ◌+◌, ◌-◌, ◌^◌, ◌<◌, ◌≤◌, Bool, true, false, cond, not, ◌&&◌, ◌||◌, ℤ, pos, negsuc, neg_ℤ, ◌+ℤ◌, ◌-ℤ◌, ◌*ℤ◌, ◌≤ℤ◌, ◌⊎◌, List, [], ◌∷◌, ◌++◌, length, map, length-append, refl, sym, ap, ap₂, ◌∙◌, inl, inr, arith}
 use Rattle.std.specs.Prelude.{◌↔◌, int_lt, int_le, unsigned_abs, All}
-use Rattle.std.specs.Ordering.{int_eq}
 use Rattle.std.proofs.Math.Nat.{pow-le-pow_right}
 use Rattle.std.proofs.lemmas.Int.{ints, by_lt_z}
 use Rattle.std.proofs.lemmas.List.{length-map}
@@ -17,12 +16,12 @@ use Rattle.ir_meaning.proofs.ModuloLaws.{modulo-pos, modulo-negsuc}
 use Rattle.wrap_rows.specs.declared.wrapping.Wrapped.{Wrapped}
 use Rattle.wrap_rows.specs.Blocks.{from_operand, from_listed, closing, marks, sign_of}
 use Rattle.wrap_rows.specs.Layout.{at_most, at_least}
-use Rattle.wrap_rows.specs.Vars.{IsNumber, IsMark}
+use Rattle.wrap_rows.specs.Vars.{IsNumber}
 use Rattle.wrap_rows.specs.Wrapping.{leaving, exceeding, listed, literals}
-use Rattle.wrap_rows.proofs.CaseLaws.{by_test, Each, Some_of, All-from_Each}
+use Rattle.wrap_rows.proofs.CaseLaws.{Each, Some_of, All-from_Each}
 use Rattle.wrap_rows.proofs.BlockLaws.{Each-append}
 use Rattle.wrap_rows.proofs.SignLaws.{signed-law}
-use Rattle.wrap_rows.proofs.ReadLaws.{same_tests, not_both, eq_yes, eq_said, le_yes, le_no, lt_yes, lt_no}
+use Rattle.wrap_rows.proofs.ReadLaws.{not_both, le_yes, le_no, lt_yes, lt_no}
 use Rattle.wrap_rows.proofs.WrapLaws.{number_of}
 
 -- ---- an exact result is the number, with 2^width times the carry

@@ -1,5 +1,5 @@
 -- Numbers so small that a system of many pieces is calm.
-use Rattle.std.specs.Prelude.{ℕ, ◌^◌, ◌<◌, ◌≤◌, ℤ, unsigned_abs, All}
+use Rattle.std.specs.Prelude.{◌^◌, ◌<◌, ◌≤◌, ℤ, unsigned_abs, All}
 use Rattle.mix_system.specs.declared.literal.Lit.{Lit}
 use Rattle.mix_system.specs.Calm.{range_size}
 use Rattle.mix_system.specs.System.{System}

@@ -1,4 +1,4 @@
-use Rattle.std.proofs.Common.{◌≡◌, ◌+◌, ◌-◌, ◌^◌, pos, negsuc, neg_ℤ, ◌-ℤ◌, length, rules, ap, sym, subst, arith}
+use Rattle.std.proofs.Common.{◌≡◌, ◌-◌, ◌^◌, pos, negsuc, neg_ℤ, ◌-ℤ◌, length, rules, ap, sym, subst, arith}
 use Rattle.std.specs.Prelude.{All}
 use Rattle.mix_system.specs.declared.literal.Term.TheVariants.{Var, Row}
 use Rattle.mix_system.specs.Lit.{negation}
@@ -29,4 +29,12 @@ add_marks-requires c =
     }
 
 pub returns : goal.returns
-returns c = ?
+returns c =
+    let wrapped = c.args.wrapped in
+    let half = 2 ^ (wrapped.width - 1) in
+    let a : c.at_least.result ≡ at_least (Var wrapped.carry) (pos 1) = search rules in
+    let b : c.at_most.result ≡ at_most (Var wrapped.carry) (negsuc 0) = search rules in
+    let t : c.at_least-2.result ≡ at_least (Row wrapped.row) (pos half) = search rules in
+    let u : c.below_signed.result ≡ at_most (Row wrapped.row) (neg_ℤ (pos half) -ℤ pos 1) = search rules in
+    let is : c.listed-listed.result.now ≡ literals wrapped = literals_are wrapped c.at_least.result c.at_most.result c.at_least-2.result c.below_signed.result c.listed-listed.result.now c.listed-listed.ensures a b t u in
+    rw is at c.add_marks.ensures

@@ -1,13 +1,11 @@
-use Rattle.std.proofs.Common.{ℕ, ◌+◌, ◌^◌, Bool, true, false, ◌||◌, List, [], ◌∷◌, ◌++◌, pos, refl, arith}
+use Rattle.std.proofs.Common.{ℕ, ◌+◌, ◌^◌, Bool, true, false, ◌||◌, [], ◌∷◌, ◌++◌, pos, refl, arith}
 use Rattle.ll_tree.specs.declared.op.Pred.{Pred}
 use Rattle.ll_tree.specs.declared.op.Pred.TheVariants.{Eq, Ne, Ugt, Uge, Ult, Ule, Sgt, Sge, Slt, Sle}
-use Rattle.mix_system.specs.declared.literal.Lit.{Lit}
-use Rattle.mix_system.specs.declared.row.Part.{Part}
 use Rattle.wrap_rows.specs.declared.compare.Compare.{Compare}
-use Rattle.wrap_rows.specs.Blocks.{marks, sign_row, sign_clauses, compared}
+use Rattle.wrap_rows.specs.Blocks.{sign_row, sign_clauses, compared}
 use Rattle.wrap_rows.specs.Select.{difference}
 use Rattle.wrap_rows.specs.Small.{IsNarrow, IsShort, IsSmall}
-use Rattle.wrap_rows.specs.Compare.{IsAt, reads_signs, needs_signs, sign_ranges, ranges, left_sign, right_sign, sign_rows, sign_difference, signed_difference, difference_row, difference_at, sign_clauses_of, listed, mark_clauses, value_clauses, layout}
+use Rattle.wrap_rows.specs.Compare.{IsAt, reads_signs, needs_signs, ranges, left_sign, right_sign, sign_rows, sign_difference, signed_difference, difference_row, difference_at, sign_clauses_of, listed, mark_clauses, value_clauses, layout}
 use Rattle.wrap_rows.proofs.CaseLaws.{Each, All-from_Each}
 use Rattle.wrap_rows.proofs.BlockLaws.{Each-append}
 use Rattle.wrap_rows.proofs.SmallLaws.{IsLight, IsListed, power_small, negation_size, mark_narrow, Each-if, short_by_test, marks-short, sign_row-light, sign_clauses-short, small-from}

@@ -1,4 +1,4 @@
-use Rattle.std.proofs.Common.{ℕ, ◌^◌, ◌<◌, ◌≤◌, ℤ, pos, ◌-ℤ◌, nat_lt, arith}
+use Rattle.std.proofs.Common.{ℕ, ◌^◌, ◌<◌, pos, ◌-ℤ◌, nat_lt, arith}
 use Rattle.std.specs.Prelude.{unsigned_abs}
 use Rattle.mix_system.specs.declared.literal.Side.TheVariants.{Ge}
 use Rattle.wrap_rows.specs.declared.ranged.Ranged.{Ranged}

@@ -1,5 +1,4 @@
 use Rattle.std.proofs.Common.{◌≡◌, ◌∷◌, [], pos, neg_ℤ, ◌*ℤ◌, ◌^◌, unsigned_abs, rules, ap, ap₂, arith}
-use Rattle.std.proofs.lemmas.Int.{ints}
 use Rattle.wrap_rows.specs.Layout.{times}
 use Rattle.wrap_rows.specs.Scaled.{signed_factor}
 use Rattle.wrap_rows.proofs.ScaledLaws.{lays_signed}

@@ -22,19 +22,20 @@ add_signed-requires-clause-clauses c =
 
 pub add_wrapped_marks-requires-clause-row : goal.add_wrapped_marks-requires-clause-row
 add_wrapped_marks-requires-clause-row c =
-    signed_row_stands c.args.self.now c.args.first c.args.into.now c.add_carry.new.into c.add_signed.new.into c.in_ok-add_carry.ensures c.in_ok-add_signed.ensures
+    rw c.rows.ensures.count (signed_row_stands c.args.self.now c.args.first c.args.into.now c.add_carry.new.into c.add_signed.new.into c.in_ok-add_carry.ensures c.in_ok-add_signed.ensures)
 
 pub add_wrapped_marks-requires-clause-room : goal.add_wrapped_marks-requires-clause-room
 add_wrapped_marks-requires-clause-room c =
-    omega (
+    rw (c.rows.ensures.count, c.operands.ensures)
+    (omega (
       arith,
       c.requires.clauses,
       clause_count c.args.self.now c.args.first (length c.args.into.now.rows + 2),
       clauses_so_far c.args.self.now c.args.first c.args.into.now c.add_carry.new.into c.add_signed.new.into c.in_ok-add_carry.ensures c.in_ok-add_signed.ensures,
-    )
+    ))
 
 pub returns-clause-ok : goal.returns-clause-ok
 returns-clause-ok c =
     on_ok c.add_wrapped_marks.result
     (lays c.args.self.now c.args.first c.args.into.now c.add_carry.new.into c.add_signed.new.into c.add_wrapped_marks.new.into c.in_ok-add_carry.ensures c.in_ok-add_signed.ensures)
-    c.add_wrapped_marks.ensures
+    (rw (c.rows.ensures.count, c.operands.ensures) at c.add_wrapped_marks.ensures)

@@ -1,16 +1,13 @@
-use Rattle.std.proofs.Common.{ℕ, ◌+◌, ◌-◌, ◌*◌, ◌^◌, ◌<◌, ◌≤◌, Bool, true, false, List, [], ◌∷◌, ◌++◌, ℤ, pos, ◌-ℤ◌, ◌*ℤ◌, nat_lt, cond, refl, arith}
+use Rattle.std.proofs.Common.{ℕ, ◌+◌, ◌-◌, ◌*◌, ◌^◌, ◌≤◌, Bool, true, false, [], ◌∷◌, ◌++◌, pos, ◌*ℤ◌, arith}
 use Rattle.std.specs.Prelude.{unsigned_abs}
-use Rattle.std.proofs.lemmas.Int.{ints, unsigned_abs-mul}
+use Rattle.std.proofs.lemmas.Int.{unsigned_abs-mul}
 use Rattle.std.proofs.lemmas.Nat.{mul-le}
-use Rattle.wrap_rows.specs.declared.scaled.Scale.{Scale}
-use Rattle.wrap_rows.specs.declared.scaled.Scale.TheVariants.{Before, Behind, Shift}
 use Rattle.wrap_rows.specs.declared.scaled.Scaled.{Scaled}
-use Rattle.ir_meaning.specs.Whole.{IsWidth, signed}
 use Rattle.wrap_rows.specs.Blocks.{equals, marks, sign_clauses}
 use Rattle.wrap_rows.specs.Small.{IsNarrow, IsShort, IsSmall}
 use Rattle.wrap_rows.specs.Wrapping.{leaving, exceeding}
-use Rattle.wrap_rows.specs.Scaled.{IsScale, factor, signed_factor, IsAt, ranges, carry_row, signed_row, signed_rows, signed_clauses, operands, literals, layout}
-use Rattle.wrap_rows.proofs.CaseLaws.{by_test, Each, All-from_Each}
+use Rattle.wrap_rows.specs.Scaled.{factor, signed_factor, IsAt, ranges, carry_row, signed_row, signed_rows, signed_clauses, operands, literals, layout}
+use Rattle.wrap_rows.proofs.CaseLaws.{Each, All-from_Each}
 use Rattle.wrap_rows.proofs.BlockLaws.{Each-append}
 use Rattle.wrap_rows.proofs.SmallLaws.{IsLight, power_small, negation_size, number_narrow, mark_narrow, Each-if, equation-short, marks-short, listed-of, leaving-listed, exceeding-listed, sign_row-light, sign_clauses-short, small-from}
 use Rattle.wrap_rows.proofs.ScaledLaws.{factor_small, signed_factor_small}

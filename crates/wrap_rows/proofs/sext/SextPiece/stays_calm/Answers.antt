@@ -1,4 +1,4 @@
-use Rattle.std.proofs.Common.{ℕ, ◌+◌, ◌^◌, ◌∷◌, [], ◌++◌, pos, arith}
+use Rattle.std.proofs.Common.{ℕ, ◌+◌, ◌∷◌, [], ◌++◌, pos, arith}
 use Rattle.wrap_rows.specs.declared.sext.Sext.{Sext}
 use Rattle.wrap_rows.specs.Blocks.{equals, marks, sign_clauses}
 use Rattle.wrap_rows.specs.Small.{IsNarrow, IsShort, IsSmall}

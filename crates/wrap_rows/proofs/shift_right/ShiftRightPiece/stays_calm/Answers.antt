@@ -1,9 +1,7 @@
-use Rattle.std.proofs.Common.{ℕ, ◌+◌, ◌-◌, ◌^◌, ◌≤◌, Bool, true, false, List, [], ◌∷◌, ◌++◌, pos, arith}
+use Rattle.std.proofs.Common.{ℕ, ◌+◌, ◌-◌, ◌^◌, ◌≤◌, Bool, true, false, [], ◌∷◌, ◌++◌, pos, arith}
 use Rattle.std.proofs.Math.Nat.{pow-le-pow_right}
-use Rattle.mix_system.specs.declared.literal.Term.TheVariants.{Var}
 use Rattle.wrap_rows.specs.declared.shift_right.ShiftRight.{ShiftRight}
-use Rattle.wrap_rows.specs.Blocks.{equals, marks, sign_clauses}
-use Rattle.wrap_rows.specs.Layout.{at_least}
+use Rattle.wrap_rows.specs.Blocks.{equals, sign_clauses}
 use Rattle.wrap_rows.specs.Small.{IsNarrow, IsShort, IsSmall}
 use Rattle.wrap_rows.specs.ShiftRight.{IsAt, helper_ranges, ranges, sign_at, rest_at, division_row, rows_of, division_at, sign_clauses_of, listed, mark_clauses, value_clauses, layout}
 use Rattle.wrap_rows.proofs.CaseLaws.{Each, All-from_Each}

@@ -1,4 +1,4 @@
-use Rattle.std.proofs.Common.{ℕ, ◌+◌, ◌^◌, ◌≤◌, Bool, true, false, List, [], ◌∷◌, ◌++◌, ℤ, pos, arith}
+use Rattle.std.proofs.Common.{ℕ, ◌+◌, ◌^◌, ◌≤◌, Bool, true, false, [], ◌∷◌, ◌++◌, pos, arith}
 use Rattle.std.specs.Prelude.{unsigned_abs}
 use Rattle.wrap_rows.specs.declared.sum.SumKind.{SumKind}
 use Rattle.wrap_rows.specs.declared.sum.SumKind.TheVariants.{Plus, Minus}
@@ -6,7 +6,7 @@ use Rattle.wrap_rows.specs.declared.sum.Sum.{Sum}
 use Rattle.wrap_rows.specs.Blocks.{equals, marks, sign_clauses}
 use Rattle.wrap_rows.specs.Small.{IsNarrow, IsShort, IsSmall}
 use Rattle.wrap_rows.specs.Wrapping.{leaving, exceeding}
-use Rattle.wrap_rows.specs.Sum.{IsAt, coefficient, sign_coefficient, carry_range, sign_ranges, ranges, carry_row, signed_row, signed_rows, signed_clauses, operands, literals, layout}
+use Rattle.wrap_rows.specs.Sum.{IsAt, sign_coefficient, carry_range, ranges, carry_row, signed_row, signed_rows, signed_clauses, operands, literals, layout}
 use Rattle.wrap_rows.proofs.CaseLaws.{Each, All-from_Each}
 use Rattle.wrap_rows.proofs.BlockLaws.{Each-append}
 use Rattle.wrap_rows.proofs.SmallLaws.{IsLight, power_small, negation_size, number_narrow, mark_narrow, Each-if, equation-short, marks-short, listed-of, leaving-listed, exceeding-listed, sign_row-light, sign_clauses-short, small-from}

@@ -1,14 +1,14 @@
-use Rattle.std.proofs.Common.{ℕ, ◌+◌, ◌-◌, ◌^◌, ◌≤◌, Bool, true, false, List, [], ◌∷◌, ◌++◌, pos, arith}
+use Rattle.std.proofs.Common.{ℕ, ◌+◌, ◌-◌, ◌^◌, Bool, true, false, [], ◌∷◌, ◌++◌, pos, arith}
 use Rattle.mix_system.specs.declared.literal.Term.TheVariants.{Var}
 use Rattle.wrap_rows.specs.declared.trunc.Trunc.{Trunc}
 use Rattle.wrap_rows.specs.Blocks.{equals, marks, sign_clauses}
 use Rattle.wrap_rows.specs.Layout.{at_least}
 use Rattle.wrap_rows.specs.Small.{IsNarrow, IsShort, IsSmall}
 use Rattle.wrap_rows.specs.Wrapping.{exceeding}
-use Rattle.wrap_rows.specs.Trunc.{IsAt, helpers, ranges, carry_row, signed_row, literals, layout_of, layout}
+use Rattle.wrap_rows.specs.Trunc.{IsAt, helpers, ranges, carry_row, signed_row, literals, layout_of}
 use Rattle.wrap_rows.proofs.CaseLaws.{Each, All-from_Each}
 use Rattle.wrap_rows.proofs.BlockLaws.{Each-append}
-use Rattle.wrap_rows.proofs.SmallLaws.{IsLight, IsListed, power_small, negation_size, number_narrow, mark_narrow, equation-short, marks-short, listed-of, exceeding-listed, sign_row-light, sign_clauses-short, small-from}
+use Rattle.wrap_rows.proofs.SmallLaws.{IsLight, power_small, negation_size, number_narrow, mark_narrow, equation-short, marks-short, listed-of, exceeding-listed, sign_row-light, sign_clauses-short, small-from}
 use Rattle.wrap_rows.proofs.trunc.TruncPiece.stays_calm.Goals as goal
 
 module _ (trunc : Trunc) (first : ℕ) (is_at : IsAt trunc first) where

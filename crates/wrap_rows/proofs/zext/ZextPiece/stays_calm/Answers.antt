@@ -7,7 +7,7 @@ use Rattle.wrap_rows.specs.Small.{IsNarrow, IsShort, IsSmall}
 use Rattle.wrap_rows.specs.Zext.{IsAt, ranges, layout, listed}
 use Rattle.wrap_rows.proofs.CaseLaws.{Each, All-from_Each}
 use Rattle.wrap_rows.proofs.BlockLaws.{Each-append}
-use Rattle.wrap_rows.proofs.SmallLaws.{IsListed, power_small, half_small, number_narrow, mark_narrow, Each-if, equation-short, marks-short, small-from}
+use Rattle.wrap_rows.proofs.SmallLaws.{IsListed, half_small, number_narrow, mark_narrow, Each-if, equation-short, marks-short, small-from}
 use Rattle.wrap_rows.proofs.zext.ZextPiece.stays_calm.Goals as goal
 
 small : (zext : Zext) (first : ℕ) → IsAt zext first → IsSmall (layout zext first)
