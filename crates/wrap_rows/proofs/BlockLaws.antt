@@ -1,21 +1,17 @@
 -- What the building blocks say at a point.
-use Rattle.std.proofs.Common.{◌≡◌, ℕ, ◌-◌, ◌^◌, ◌<◌, ◌≤◌, Bool, true, false, cond, ℤ, pos, negsuc, neg_ℤ, ◌+ℤ◌, ◌-ℤ◌, ◌*ℤ◌, ◌<ℤ◌, ◌≤ℤ◌, ◌⊎◌, List, [], ◌∷◌, ◌++◌, map, refl, inl, inr, ap, sym, ◌∙◌, subst, arith}
-use Rattle.std.specs.Prelude.{◌↔◌, int_lt, slice_index_or, All, Any}
-use Rattle.std.proofs.Math.Nat.{pow-suc}
+use Rattle.std.proofs.Common.{◌≡◌, ℕ, ℤ, pos, negsuc, ◌<ℤ◌, ◌≤ℤ◌, ◌⊎◌, List, [], ◌∷◌, ◌++◌, map, inl, inr, arith}
+use Rattle.std.specs.Prelude.{◌↔◌, slice_index_or, All, Any}
 use Rattle.std.proofs.lemmas.Int.{ints, by_lt_z}
-use Rattle.std.proofs.lemmas.Nat.{pow_pos}
 use Rattle.std.proofs.lemmas.List.Elements.{All-cons}
-use Rattle.mix_system.specs.declared.literal.Term.{Term}
 use Rattle.mix_system.specs.declared.literal.Term.TheVariants.{Var, Row}
 use Rattle.mix_system.specs.declared.literal.Lit.{Lit}
 use Rattle.mix_system.specs.declared.row.Part.{Part}
-use Rattle.mix_system.specs.Lit.{negation}
 use Rattle.mix_system.specs.Fits.{IsTrueAt, term_value}
 use Rattle.mix_system.specs.Row.{number_at, row_value}
 use Rattle.mix_system.proofs.BoundLaws.{true_or_negation, not_both_true}
 use Rattle.ll_tree.specs.declared.op.Pred.{Pred}
 use Rattle.ll_tree.specs.declared.op.Pred.TheVariants.{Eq, Ne, Ugt, Uge, Ult, Ule, Sgt, Sge, Slt, Sle}
-use Rattle.wrap_rows.specs.Layout.{at_most, at_least}
+use Rattle.wrap_rows.specs.Layout.{at_least}
 use Rattle.wrap_rows.specs.Vars.{IsMark}
 use Rattle.wrap_rows.specs.Blocks.{equals, from_operand, from_listed, closing, marks, less, less_or_equal, greater, greater_or_equal, compared, StandsSo}
 use Rattle.wrap_rows.proofs.CaseLaws.{Each, Some_of, Each-from_All, All-from_Each, Some_of-from_Any, Any-from_Some_of}

@@ -16,9 +16,7 @@ use Rattle.mix_system.proofs.ProductLaws.{neg_ℤ-*ℤ}
 use Rattle.ll_tree.specs.declared.op.Pred.{Pred}
 use Rattle.ll_tree.specs.declared.op.Pred.TheVariants.{Eq, Ne, Ugt, Uge, Ult, Ule, Sgt, Sge, Slt, Sle}
 use Rattle.ir_meaning.specs.Whole.{IsWidth, signed}
-use Rattle.ir_meaning.specs.Value.{poison_if, on_numbers}
-use Rattle.ir_meaning.specs.declared.value.Val.{Val}
-use Rattle.ir_meaning.specs.declared.value.Val.TheVariants.{Poison, Num}
+use Rattle.ir_meaning.specs.Value.{poison_if}
 use Rattle.ir_meaning.specs.Compare.{holds, is_negative, cmp_on}
 use Rattle.wrap_rows.specs.declared.compare.Compare.{Compare}
 use Rattle.wrap_rows.specs.Layout.{Holds}
@@ -28,10 +26,10 @@ use Rattle.wrap_rows.specs.Piece.{put_from, AreIn, is_of_rows, names_own_rows, m
 use Rattle.wrap_rows.specs.Compare.{IsAt, reads_signs, needs_signs, left_sign, right_sign, ranges, rows_of, difference_at, sign_clauses_of, listed, value_clauses, layout_of, layout, vars, sign_ranges, reading, read_as, stands_so, holds_of, holds_at, signs_differ, is_poison, signs, numbers, CanTake, meaning}
 use Rattle.wrap_rows.proofs.CaseLaws.{by_test, Each, Some_of}
 use Rattle.wrap_rows.proofs.BlockLaws.{mark_cases, each-said, all-true, Each-append, Each-left, Each-right, compared-law}
-use Rattle.wrap_rows.proofs.SignLaws.{sign-law}
+use Rattle.wrap_rows.proofs.SignLaws.{sign-law, sign_of-IsMark}
 use Rattle.wrap_rows.proofs.LinearLaws.{once, times_one, less_once}
 use Rattle.wrap_rows.proofs.PutLaws.{put-before, put-first, put-second}
-use Rattle.wrap_rows.proofs.ReadLaws.{same_tests, not_both, eq_yes, eq_said, le_yes, le_said, lt_yes, lt_said, lt_no, mark_of-IsMark, mark_of-one}
+use Rattle.wrap_rows.proofs.ReadLaws.{same_tests, not_both, eq_yes, eq_said, le_yes, le_said, lt_yes, lt_said, lt_no, mark_of-IsMark, mark_of-one, reads_two}
 use Rattle.wrap_rows.proofs.MarkedLaws.{two_said, two_filled}
 use Rattle.wrap_rows.proofs.WrapLaws.{number_of, sign_cases}
 
@@ -90,13 +88,6 @@ differ_by true true = refl
 differ_by true false = refl
 differ_by false true = refl
 differ_by false false = refl
-
-pub sign_is_mark : (width : ℕ) (a : ℤ) → IsMark (sign_of width a)
-sign_is_mark width a = by_case (int_lt a (pos (2 ^ (width - 1))))
-  where
-    by_case : (test : Bool) → IsMark (cond test (pos 0) (pos 1))
-    by_case true = (omega (arith, ints), omega (arith, ints))
-    by_case false = (omega (arith, ints), omega (arith, ints))
 
 -- ---- sums of the rows
 
@@ -239,27 +230,6 @@ module _ (compare : Compare) (first : ℕ) (point : List ℤ) where
 
 -- ---- what number and mark stand for
 
--- an operation of two numbers
-pub reads_two : (f : ℕ → ℕ → Val) (x a b m ma mb : ℤ) (barred : Bool) → (m ≡ pos 1 ↔ ((ma ≡ pos 1) ⊎ ((mb ≡ pos 1) ⊎ (barred ≡ true)))) → f (unsigned_abs a) (unsigned_abs b) ≡ poison_if barred (unsigned_abs x)
-    → poison_if (int_eq m (pos 1)) (unsigned_abs x) ≡ on_numbers f (poison_if (int_eq ma (pos 1)) (unsigned_abs a)) (poison_if (int_eq mb (pos 1)) (unsigned_abs b))
-reads_two f x a b m ma mb barred marked means =
-    by_test (λ test. poison_if (int_eq m (pos 1)) (unsigned_abs x) ≡ on_numbers f (poison_if test (unsigned_abs a)) (poison_if (int_eq mb (pos 1)) (unsigned_abs b))) (int_eq ma (pos 1))
-    (λ passes. poisoned (marked.1 (inl (eq_said ma (pos 1) passes))))
-    (λ fails.
-    by_test (λ test. poison_if (int_eq m (pos 1)) (unsigned_abs x) ≡ on_numbers f (Num (unsigned_abs a)) (poison_if test (unsigned_abs b))) (int_eq mb (pos 1))
-    (λ passes. poisoned (marked.1 (inr (inl (eq_said mb (pos 1) passes)))))
-    (λ other_fails.
-    let same : int_eq m (pos 1) ≡ barred = same_tests (int_eq m (pos 1)) barred
-    (λ passes. elim (marked.0 (eq_said m (pos 1) passes)) [
-      | inl first ↦ absurd (not_both (int_eq ma (pos 1)) (eq_yes ma (pos 1) first) fails)
-      | inr rest ↦ elim rest [ inl second ↦ absurd (not_both (int_eq mb (pos 1)) (eq_yes mb (pos 1) second) other_fails) | inr bars ↦ bars ]
-    ])
-    (λ bars. eq_yes m (pos 1) (marked.1 (inr (inr bars)))) in
-    ap (λ test. poison_if test (unsigned_abs x)) same ∙ sym means))
-  where
-    poisoned : m ≡ pos 1 → poison_if (int_eq m (pos 1)) (unsigned_abs x) ≡ Poison
-    poisoned one = ap (λ test. poison_if test (unsigned_abs x)) (eq_yes m (pos 1) one)
-
 -- a mark that is 1 just where a test passes
 mark_is : (x : ℤ) (test : Bool) → IsMark x → (x ≡ pos 1 ↔ test ≡ true) → x ≡ mark_of test
 mark_is x true is says = says.1 refl
@@ -360,7 +330,7 @@ complete compare first point is_at takes within =
     let room : needs_signs compare ≡ true → first + 1 + 1 + 1 < length before = λ needed. rw (length-set, length-set) (room_for_signs (needs_signs compare) first (length point) within needed) in
     let put = signs_put (needs_signs compare) (first + 1 + 1) (sign_of width a) (sign_of width b) before room in
     let are : AreSigns compare first new (needs_signs compare) = λ needed. ((put needed).0 ∙ ap (sign_of width) (sym kept_a), (put needed).1 ∙ ap (sign_of width) (sym kept_b)) in
-    let are_marks : AreMarks compare first new (needs_signs compare) = λ needed. (subst IsMark (sym (put needed).0) (sign_is_mark width a), subst IsMark (sym (put needed).1) (sign_is_mark width b)) in
+    let are_marks : AreMarks compare first new (needs_signs compare) = λ needed. (subst IsMark (sym (put needed).0) (sign_of-IsMark width a), subst IsMark (sym (put needed).1) (sign_of-IsMark width b)) in
     let is_x : IsMark (number_at new first) = subst IsMark (sym x) (mark_of-IsMark (holds_at compare point)) in
     let is_m : IsMark (number_at new (first + 1)) = subst IsMark (sym m) (mark_of-IsMark (is_poison compare point)) in
     let is_a : IsNumber width (number_at new compare.a.number) = subst (IsNumber width) (sym kept_a) takes.a.number in

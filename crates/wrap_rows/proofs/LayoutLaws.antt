@@ -1,5 +1,5 @@
 -- What is laid says at a point of a system what the layout says over its own rows.
-use Rattle.std.proofs.Common.{◌≡◌, ℕ, zero, suc, ◌+◌, ◌<◌, ℤ, List, [], ◌∷◌, length, refl, inl, inr, ◌⊎◌, ap, sym, ◌∙◌, subst, arith, add-zero, map}
+use Rattle.std.proofs.Common.{◌≡◌, ℕ, zero, suc, ◌+◌, ◌<◌, ℤ, List, [], ◌∷◌, length, refl, inl, inr, ap, sym, ◌∙◌, subst, arith, map}
 use Rattle.std.specs.Prelude.{slice_index_or, All, Any, ◌↔◌}
 use Rattle.mix_system.specs.declared.literal.Term.{Term}
 use Rattle.mix_system.specs.declared.literal.Term.TheVariants.{Var, Row}
@@ -8,7 +8,6 @@ use Rattle.mix_system.specs.declared.row.Part.{Part}
 use Rattle.mix_system.specs.Lit.{IsWithin}
 use Rattle.mix_system.specs.Fits.{IsTrueAt, term_value}
 use Rattle.mix_system.specs.Row.{row_value}
-use Rattle.wrap_rows.specs.Normal.{row_of, clause_of}
 use Rattle.wrap_rows.specs.Layout.{Layout, raised_term, raised, clause_from, IsOfRows, StandsAt, Holds}
 use Rattle.wrap_rows.proofs.CaseLaws.{Each, Some_of, Each-from_All, All-from_Each, Some_of-from_Any, Any-from_Some_of}
 use Rattle.wrap_rows.proofs.ClauseLaws.{clause_of-true, clause_of-said}

@@ -1,7 +1,9 @@
 pub mod BlockLaws
 pub mod CaseLaws
 pub mod ClauseLaws
+pub mod CompactLaws
 pub mod CompareLaws
+pub mod LayLaws
 pub mod LayoutLaws
 pub mod LinearLaws
 pub mod MarkLaws
@@ -11,10 +13,13 @@ pub mod PlaceLaws
 pub mod PutLaws
 pub mod RangedLaws
 pub mod ReadLaws
+pub mod ScaledLaws
 pub mod SelectLaws
 pub mod SextLaws
+pub mod ShiftOutLaws
 pub mod ShiftRightLaws
 pub mod SignLaws
+pub mod SmallLaws
 pub mod SumLaws
 pub mod SumPieceLaws
 pub mod TruncLaws

@@ -1,13 +1,13 @@
 -- The laws of a phi's piece.
-use Rattle.std.proofs.Common.{◌≡◌, ℕ, zero, suc, ◌+◌, ◌-◌, ◌*◌, ◌^◌, ◌<◌, ◌≤◌, Bool, true, false, cond, ◌&&◌, nat_lt, ℤ, pos, neg_ℤ, ◌+ℤ◌, ◌-ℤ◌, ◌*ℤ◌, ◌<ℤ◌, ◌≤ℤ◌, ◌⊎◌, List, [], ◌∷◌, ◌++◌, map, take, drop, get_or, length, slice_set, refl, sym, ap, ◌∙◌, inl, inr, subst, arith}
-use Rattle.std.specs.Prelude.{◌↔◌, unsigned_abs, slice_index_or, All}
+use Rattle.std.proofs.Common.{◌≡◌, ℕ, zero, suc, ◌+◌, ◌*◌, ◌<◌, ◌≤◌, Bool, true, cond, nat_lt, ℤ, pos, ◌-ℤ◌, ◌≤ℤ◌, ◌⊎◌, List, [], ◌∷◌, ◌++◌, map, take, drop, get_or, length, refl, sym, ap, ◌∙◌, inl, inr, subst, arith}
+use Rattle.std.specs.Prelude.{unsigned_abs, slice_index_or}
 use Rattle.std.specs.List.{list_all}
 use Rattle.std.specs.Ordering.{int_eq}
 use Rattle.std.proofs.lemmas.Bool.Decides.{nat_tests}
 use Rattle.std.proofs.lemmas.Int.{ints}
 use Rattle.std.proofs.lemmas.List.{length-map, length-take-le, map-append, take_more, drop_more}
 use Rattle.std.proofs.lemmas.Nat.{pow_pos}
-use Rattle.mix_system.specs.declared.literal.Term.TheVariants.{Var, Row}
+use Rattle.mix_system.specs.declared.literal.Term.TheVariants.{Row}
 use Rattle.mix_system.specs.declared.literal.Lit.{Lit}
 use Rattle.mix_system.specs.declared.row.Part.{Part}
 use Rattle.mix_system.specs.Fits.{IsTrueAt, term_value}
@@ -17,7 +17,7 @@ use Rattle.wrap_rows.specs.declared.phi.Incoming.{Incoming}
 use Rattle.wrap_rows.specs.declared.phi.Phi.{Phi}
 use Rattle.wrap_rows.specs.Normal.{clause_of}
 use Rattle.wrap_rows.specs.Layout.{clause_from, Holds}
-use Rattle.wrap_rows.specs.Vars.{IsMark, IsNumber, IsValue, value_at}
+use Rattle.wrap_rows.specs.Vars.{IsMark, IsNumber, value_at}
 use Rattle.wrap_rows.specs.Piece.{put_from, AreIn, is_of_rows, names_own_rows}
 use Rattle.wrap_rows.specs.Phi.{StandsBefore, IsAt, vars, ranges, row_for, clauses_for, clauses_from, layout, is_taken, taken_count, taken_number, taken_mark, taken_value, numbers, IsIncoming, CanFill, CanSay, meaning}
 use Rattle.wrap_rows.proofs.CaseLaws.{by_test, Each, Some_of, Each-from_All}

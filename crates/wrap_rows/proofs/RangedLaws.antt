@@ -1,12 +1,11 @@
 -- The laws of the piece of a parameter with a range.
-use Rattle.std.proofs.Common.{◌≡◌, ℕ, ◌+◌, ◌-◌, ◌^◌, ◌<◌, ◌≤◌, Bool, true, false, cond, ◌||◌, ◌&&◌, nat_lt, ℤ, pos, ◌-ℤ◌, ◌<ℤ◌, ◌≤ℤ◌, ◌⊎◌, List, [], ◌∷◌, length, refl, sym, ap, ◌∙◌, inl, inr, subst, arith}
+use Rattle.std.proofs.Common.{◌≡◌, ℕ, ◌+◌, ◌≤◌, Bool, true, false, cond, ◌||◌, ◌&&◌, nat_lt, ℤ, pos, ◌-ℤ◌, ◌<ℤ◌, ◌≤ℤ◌, ◌⊎◌, List, [], length, refl, sym, ap, ◌∙◌, inl, inr, subst, arith}
 use Rattle.std.specs.Prelude.{int_lt, int_le, unsigned_abs, ◌++◌, map, Result, Ok, Err, OnOk}
 use Rattle.std.proofs.lemmas.List.{append-nil}
 use Rattle.mix_system.specs.System.{System}
 use Rattle.wrap_rows.specs.Normal.{clause_of}
 use Rattle.std.specs.Ordering.{int_eq}
 use Rattle.std.proofs.lemmas.Int.{ints}
-use Rattle.mix_system.specs.declared.row.Part.{Part}
 use Rattle.mix_system.specs.Fits.{IsTrueAt}
 use Rattle.mix_system.specs.Row.{number_at}
 use Rattle.ir_meaning.specs.Value.{poison_if}
@@ -16,9 +15,9 @@ use Rattle.wrap_rows.specs.Vars.{IsMark, value_at}
 use Rattle.wrap_rows.specs.Piece.{Lays, put_from, AreIn, names_own_rows, mark_of}
 use Rattle.wrap_rows.specs.Ranged.{IsAt, ranges, between_clauses, around_clauses, clauses, layout, vars, is_outside, CanTake, numbers, meaning}
 use Rattle.wrap_rows.proofs.CaseLaws.{by_test, Each, Some_of, without_first, only}
-use Rattle.wrap_rows.proofs.BlockLaws.{mark_cases, each-said, all-true}
+use Rattle.wrap_rows.proofs.BlockLaws.{each-said, all-true}
 use Rattle.wrap_rows.proofs.PutLaws.{put-before, put-first}
-use Rattle.wrap_rows.proofs.ReadLaws.{same_tests, not_both, eq_yes, eq_said, le_yes, le_no, le_said, lt_yes, lt_no, lt_said, mark_of-IsMark, mark_of-one, or_said, or_left, or_right}
+use Rattle.wrap_rows.proofs.ReadLaws.{same_tests, not_both, eq_yes, eq_said, le_yes, le_said, lt_yes, lt_said, mark_of-IsMark, mark_of-one, or_said, or_left, or_right}
 
 pub own_rows : (ranged : Ranged) (first : ℕ) → names_own_rows (layout ranged first) ≡ true
 own_rows ranged first =

@@ -1,12 +1,11 @@
 -- What number and mark stand for, from what the clauses say of them.
-use Rattle.std.proofs.Common.{◌≡◌, ℕ, Bool, true, false, cond, ◌||◌, ◌&&◌, ℤ, pos, ◌<ℤ◌, ◌≤ℤ◌, ◌⊎◌, List, [], ◌∷◌, refl, sym, ap, ◌∙◌, inl, inr, arith}
+use Rattle.std.proofs.Common.{◌≡◌, ℕ, Bool, true, false, cond, ◌||◌, ◌&&◌, ℤ, pos, ◌<ℤ◌, ◌≤ℤ◌, ◌⊎◌, [], ◌∷◌, refl, sym, ap, ◌∙◌, inl, inr, arith}
 use Rattle.std.specs.Prelude.{◌↔◌, int_lt, int_le, unsigned_abs}
 use Rattle.std.specs.Ordering.{int_eq}
 use Rattle.std.proofs.lemmas.Int.{ints, by_lt_z}
 use Rattle.std.proofs.lemmas.Bool.Decides.{Decides-int_eq, not_from_Decides}
 use Rattle.ir_meaning.specs.declared.value.Val.{Val}
-use Rattle.ir_meaning.specs.declared.value.Val.TheVariants.{Poison, Num}
-use Rattle.ir_meaning.specs.Value.{poison_if, on_number}
+use Rattle.ir_meaning.specs.Value.{poison_if, on_number, on_numbers}
 use Rattle.wrap_rows.specs.Vars.{IsMark}
 use Rattle.wrap_rows.specs.Piece.{mark_of}
 use Rattle.wrap_rows.proofs.CaseLaws.{by_test, Some_of}
@@ -86,3 +85,26 @@ reads_one f x a m ma barred marked means =
     (λ passes. elim (marked.0 (eq_said m (pos 1) passes)) [ inl poisoned ↦ absurd (not_both (int_eq ma (pos 1)) (eq_yes ma (pos 1) poisoned) fails) | inr bars ↦ bars ])
     (λ bars. eq_yes m (pos 1) (marked.1 (inr bars))) in
     ap (λ test. poison_if test (unsigned_abs x)) same ∙ sym means)
+
+-- ---- an operation of two numbers
+
+pub reads_two : (f : ℕ → ℕ → Val) (x a b m ma mb : ℤ) (barred : Bool) → (m ≡ pos 1 ↔ ((ma ≡ pos 1) ⊎ ((mb ≡ pos 1) ⊎ (barred ≡ true)))) → f (unsigned_abs a) (unsigned_abs b) ≡ poison_if barred (unsigned_abs x)
+    → poison_if (int_eq m (pos 1)) (unsigned_abs x) ≡ on_numbers f (poison_if (int_eq ma (pos 1)) (unsigned_abs a)) (poison_if (int_eq mb (pos 1)) (unsigned_abs b))
+reads_two f x a b m ma mb barred marked means =
+    by_test (λ test. poison_if (int_eq m (pos 1)) (unsigned_abs x) ≡ on_numbers f (poison_if test (unsigned_abs a)) (poison_if (int_eq mb (pos 1)) (unsigned_abs b))) (int_eq ma (pos 1))
+    (λ passes. ap (λ test. poison_if test (unsigned_abs x)) (eq_yes m (pos 1) (marked.1 (inl (eq_said ma (pos 1) passes)))))
+    (λ fails. by_test (λ test. poison_if (int_eq m (pos 1)) (unsigned_abs x) ≡ on_numbers f (poison_if false (unsigned_abs a)) (poison_if test (unsigned_abs b))) (int_eq mb (pos 1))
+    (λ passes. ap (λ test. poison_if test (unsigned_abs x)) (eq_yes m (pos 1) (marked.1 (inr (inl (eq_said mb (pos 1) passes))))))
+    (λ other_fails. ap (λ test. poison_if test (unsigned_abs x)) (same fails other_fails) ∙ sym means))
+  where
+    same : int_eq ma (pos 1) ≡ false → int_eq mb (pos 1) ≡ false → int_eq m (pos 1) ≡ barred
+    same fails other_fails =
+        same_tests (int_eq m (pos 1)) barred
+        (λ passes. elim (marked.0 (eq_said m (pos 1) passes)) [
+          | inl poisoned ↦ absurd (not_both (int_eq ma (pos 1)) (eq_yes ma (pos 1) poisoned) fails)
+          | inr rest ↦ elim rest [
+            | inl poisoned ↦ absurd (not_both (int_eq mb (pos 1)) (eq_yes mb (pos 1) poisoned) other_fails)
+            | inr bars ↦ bars
+          ]
+        ])
+        (λ bars. eq_yes m (pos 1) (marked.1 (inr (inr bars))))

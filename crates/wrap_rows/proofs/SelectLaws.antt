@@ -1,13 +1,10 @@
 -- The laws of a choice's piece.
-use Rattle.std.proofs.Common.{◌≡◌, ℕ, ◌+◌, ◌-◌, ◌^◌, ◌<◌, ◌≤◌, Bool, true, false, cond, ◌==◌, ◌||◌, ℤ, pos, neg_ℤ, ◌+ℤ◌, ◌<ℤ◌, ◌≤ℤ◌, ◌⊎◌, List, [], ◌∷◌, ◌++◌, length, refl, sym, ap, ◌∙◌, inl, inr, subst, arith}
-use Rattle.std.specs.Prelude.{◌↔◌, unsigned_abs}
+use Rattle.std.proofs.Common.{◌≡◌, ℕ, ◌+◌, ◌<◌, ◌≤◌, Bool, true, false, cond, ◌==◌, ◌||◌, ℤ, pos, neg_ℤ, ◌+ℤ◌, ◌≤ℤ◌, ◌⊎◌, List, [], ◌∷◌, length, refl, sym, ap, ◌∙◌, inl, inr, subst, arith}
+use Rattle.std.specs.Prelude.{unsigned_abs}
 use Rattle.std.specs.Ordering.{int_eq}
-use Rattle.std.proofs.lemmas.Bool.Decides.{nat_tests}
 use Rattle.std.proofs.lemmas.Int.{ints}
-use Rattle.mix_system.specs.declared.literal.Term.TheVariants.{Var, Row}
-use Rattle.mix_system.specs.declared.literal.Lit.{Lit}
-use Rattle.mix_system.specs.declared.row.Part.{Part}
-use Rattle.mix_system.specs.Fits.{IsTrueAt, term_value, IsInRange}
+use Rattle.mix_system.specs.declared.literal.Term.TheVariants.{Row}
+use Rattle.mix_system.specs.Fits.{IsTrueAt, term_value}
 use Rattle.mix_system.specs.Row.{number_at}
 use Rattle.ir_meaning.specs.Value.{poison_if, select_of}
 use Rattle.wrap_rows.specs.declared.select.Select.{Select}
@@ -15,7 +12,7 @@ use Rattle.wrap_rows.specs.Layout.{Holds}
 use Rattle.wrap_rows.specs.Vars.{IsMark, IsNumber, is_marked, value_at}
 use Rattle.wrap_rows.specs.Piece.{put_from, AreIn, names_own_rows, mark_of}
 use Rattle.wrap_rows.specs.Select.{IsAt, ranges, layout, vars, is_first, is_poison, CanTake, numbers, meaning}
-use Rattle.wrap_rows.proofs.CaseLaws.{by_test, Each, Some_of, without_first, only}
+use Rattle.wrap_rows.proofs.CaseLaws.{by_test, without_first, only}
 use Rattle.wrap_rows.proofs.BlockLaws.{mark_cases, each-said, all-true}
 use Rattle.wrap_rows.proofs.LinearLaws.{once, less_once}
 use Rattle.wrap_rows.proofs.PutLaws.{put-before, put-first, put-second}

@@ -1,5 +1,5 @@
 -- The laws of a sign extension's piece.
-use Rattle.std.proofs.Common.{◌≡◌, ℕ, suc, ◌+◌, ◌-◌, ◌*◌, ◌^◌, ◌<◌, ◌≤◌, Bool, true, false, cond, ◌||◌, ℤ, pos, neg_ℤ, ◌+ℤ◌, ◌-ℤ◌, ◌*ℤ◌, ◌<ℤ◌, ◌≤ℤ◌, ◌⊎◌, List, [], ◌∷◌, ◌++◌, length, slice_set, refl, sym, ap, ◌∙◌, inl, inr, subst, arith}
+use Rattle.std.proofs.Common.{◌≡◌, ℕ, ◌+◌, ◌-◌, ◌^◌, ◌<◌, ◌≤◌, Bool, true, false, cond, ◌||◌, ℤ, pos, neg_ℤ, ◌+ℤ◌, ◌-ℤ◌, ◌*ℤ◌, ◌<ℤ◌, ◌≤ℤ◌, List, [], ◌∷◌, ◌++◌, length, slice_set, refl, sym, ap, ◌∙◌, inl, inr, subst, arith}
 use Rattle.std.specs.Prelude.{◌↔◌, int_lt, unsigned_abs}
 use Rattle.std.specs.Ordering.{int_eq}
 use Rattle.std.proofs.Math.IntN.{*ℤ-zero}
@@ -7,13 +7,11 @@ use Rattle.std.proofs.Math.ListN.{length-set}
 use Rattle.std.proofs.Math.Nat.{pow-le-pow_right}
 use Rattle.std.proofs.lemmas.Int.{ints}
 use Rattle.std.proofs.lemmas.Nat.{pow_pos}
-use Rattle.mix_system.specs.declared.literal.Term.TheVariants.{Var, Row}
-use Rattle.mix_system.specs.declared.literal.Lit.{Lit}
+use Rattle.mix_system.specs.declared.literal.Term.TheVariants.{Row}
 use Rattle.mix_system.specs.declared.row.Part.{Part}
 use Rattle.mix_system.specs.Fits.{IsTrueAt, term_value}
 use Rattle.mix_system.specs.Row.{number_at}
-use Rattle.ir_meaning.specs.Whole.{IsWidth, signed, modulo}
-use Rattle.ir_meaning.specs.Value.{poison_if}
+use Rattle.ir_meaning.specs.Whole.{signed, modulo}
 use Rattle.ir_meaning.specs.declared.value.Val.TheVariants.{Num}
 use Rattle.ir_meaning.specs.Rows.{sext_of}
 use Rattle.wrap_rows.specs.declared.sext.Sext.{Sext}
@@ -22,9 +20,9 @@ use Rattle.wrap_rows.specs.Blocks.{equals, marks, sign_clauses, sign_of}
 use Rattle.wrap_rows.specs.Vars.{IsMark, IsNumber, is_marked, value_at}
 use Rattle.wrap_rows.specs.Piece.{put_from, AreIn, names_own_rows, mark_of}
 use Rattle.wrap_rows.specs.Sext.{IsAt, ranges, layout, vars, CanTake, number, numbers, meaning}
-use Rattle.wrap_rows.proofs.CaseLaws.{Each, Some_of, Each-from_All}
+use Rattle.wrap_rows.proofs.CaseLaws.{Some_of}
 use Rattle.wrap_rows.proofs.BlockLaws.{each-said, all-true, Each-append, equals-said, equals-true}
-use Rattle.wrap_rows.proofs.SignLaws.{sign-law}
+use Rattle.wrap_rows.proofs.SignLaws.{sign-law, sign_of-IsMark}
 use Rattle.wrap_rows.proofs.LinearLaws.{once, times_one, less_once}
 use Rattle.wrap_rows.proofs.PutLaws.{put-before, put-first, put-second}
 use Rattle.wrap_rows.proofs.ReadLaws.{not_both, mark_of-IsMark, reads_one}
@@ -114,13 +112,6 @@ filled_number from to a s room is_a sign =
       | inr lowered ↦ lowered_number from to (unsigned_abs a) a s room whole lowered below
     ]
 
-sign_is_mark : (width : ℕ) (a : ℤ) → IsMark (sign_of width a)
-sign_is_mark width a = by_cases (int_lt a (pos (2 ^ (width - 1))))
-  where
-    by_cases : (test : Bool) → IsMark (cond test (pos 0) (pos 1))
-    by_cases true = (omega (arith, ints), omega (arith, ints))
-    by_cases false = (omega (arith, ints), omega (arith, ints))
-
 pub complete : (sext : Sext) (first : ℕ) (point : List ℤ) → IsAt sext first → CanTake sext point → first + length (ranges sext) ≤ length point → AreIn first (ranges sext) (put_from first (numbers sext point) point) × Holds (layout sext first) (put_from first (numbers sext point) point)
 complete sext first point is_at takes within =
     let rows = (layout sext first).rows in
@@ -134,7 +125,7 @@ complete sext first point is_at takes within =
     let m : number_at new (first + 1) ≡ mark = put-second first (number sext point) mark (sign ∷ []) point (omega arith) in
     let s : number_at new (first + 1 + 1) ≡ sign = put-second (first + 1) mark sign [] (slice_set point first (number sext point)) (rw length-set (omega arith)) in
     let is_mark : IsMark (number_at new (first + 1)) = subst IsMark (sym m) (mark_of-IsMark (is_marked sext.a point)) in
-    let is_sign : IsMark (number_at new (first + 1 + 1)) = subst IsMark (sym s) (sign_is_mark sext.from a) in
+    let is_sign : IsMark (number_at new (first + 1 + 1)) = subst IsMark (sym s) (sign_of-IsMark sext.from a) in
     let is_operand : IsMark (number_at new sext.a.mark) = subst IsMark (sym kept_mark) takes.mark in
     let is_a : IsNumber sext.from (number_at new sext.a.number) = subst (IsNumber sext.from) (sym kept) takes.number in
     let filled = filled_number sext.from sext.to a sign (wider sext first is_at) takes.number refl in

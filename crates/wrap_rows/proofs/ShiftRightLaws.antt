@@ -25,13 +25,12 @@ use Rattle.wrap_rows.specs.Piece.{put_from, AreIn, names_own_rows, mark_of}
 use Rattle.wrap_rows.specs.ShiftRight.{IsAt, vars, helper_ranges, ranges, sign_at, rest_at, signed_row, rows_of, division_at, sign_clauses_of, listed, mark_clauses, layout_of, layout, raised, divided, is_barred, is_poison, helpers, numbers, CanTake, shift_of, meaning}
 use Rattle.wrap_rows.proofs.CaseLaws.{by_test, Each, Some_of}
 use Rattle.wrap_rows.proofs.BlockLaws.{each-said, all-true, Each-append, Each-left, Each-right, equals-said, equals-true}
-use Rattle.wrap_rows.proofs.SignLaws.{sign-law}
+use Rattle.wrap_rows.proofs.SignLaws.{sign-law, sign_of-IsMark}
 use Rattle.wrap_rows.proofs.LinearLaws.{once, times_one, less_once}
 use Rattle.wrap_rows.proofs.PutLaws.{put-before, put-first, put-second}
-use Rattle.wrap_rows.proofs.ReadLaws.{not_both, mark_of-IsMark, flag_lists}
+use Rattle.wrap_rows.proofs.ReadLaws.{not_both, mark_of-IsMark, flag_lists, reads_two}
 use Rattle.wrap_rows.proofs.MarkedLaws.{two_said, two_filled}
 use Rattle.wrap_rows.proofs.WrapLaws.{number_of, sign_cases}
-use Rattle.wrap_rows.proofs.CompareLaws.{reads_two, sign_is_mark}
 
 -- ---- the rows that the clauses name
 
@@ -316,7 +315,7 @@ complete shift first point is_at takes within =
     let put : ArePut shift.signed (first + 1 + 1) sign r_number new = helpers_put shift.signed (first + 1 + 1) sign r_number before (rw (length-set, length-set) enough) in
     let r : number_at new (rest_at shift.signed first) ≡ r_number = put.rest_is in
     let is_sign : IsSign shift first new shift.signed = λ passes. put.sign_is passes ∙ ap (sign_of width) (sym kept_a) in
-    let sign_marks : shift.signed ≡ true → IsMark (number_at new (sign_at first)) = λ passes. subst IsMark (sym (put.sign_is passes)) (sign_is_mark width a) in
+    let sign_marks : shift.signed ≡ true → IsMark (number_at new (sign_at first)) = λ passes. subst IsMark (sym (put.sign_is passes)) (sign_of-IsMark width a) in
     let is_rest : IsNumber shift.amount (number_at new (rest_at shift.signed first)) = subst (IsNumber shift.amount) (sym r) (omega (arith, ints), omega (arith, ints, mod_below whole p (pow_pos shift.amount))) in
     let is_m : IsMark (number_at new (first + 1)) = subst IsMark (sym m) (mark_of-IsMark (is_poison shift point)) in
     let is_a : IsNumber width (number_at new shift.a.number) = subst (IsNumber width) (sym kept_a) takes.a.number in

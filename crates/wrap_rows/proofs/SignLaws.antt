@@ -1,5 +1,5 @@
 -- The sign of an operand.
-use Rattle.std.proofs.Common.{◌≡◌, ℕ, suc, ◌+◌, ◌-◌, ◌*◌, ◌^◌, ◌<◌, ◌≤◌, cond, ℤ, pos, negsuc, neg_ℤ, ◌+ℤ◌, ◌-ℤ◌, ◌*ℤ◌, ◌<ℤ◌, ◌≤ℤ◌, List, [], ◌∷◌, refl, inl, inr, ap, sym, ◌∙◌, arith}
+use Rattle.std.proofs.Common.{◌≡◌, ℕ, suc, ◌+◌, ◌-◌, ◌^◌, ◌<◌, ◌≤◌, Bool, true, false, cond, ℤ, pos, negsuc, neg_ℤ, ◌+ℤ◌, ◌-ℤ◌, ◌*ℤ◌, ◌<ℤ◌, ◌≤ℤ◌, List, [], inl, inr, ap, sym, ◌∙◌, arith}
 use Rattle.std.specs.Prelude.{◌↔◌, int_lt, slice_index_or, All, Any}
 use Rattle.std.proofs.Math.IntN.{*ℤ_comm, *ℤ-zero}
 use Rattle.std.proofs.Math.Nat.{mul-one, pow-suc}
@@ -15,7 +15,7 @@ use Rattle.wrap_rows.specs.Blocks.{sign_of, sign_row, sign_clauses}
 use Rattle.wrap_rows.proofs.BlockLaws.{mark_cases, each-said, all-true}
 
 -- 2^width is twice the half of it
-half_of : (width : ℕ) → 1 ≤ width → 2 ^ width ≡ 2 ^ (width - 1) + 2 ^ (width - 1)
+pub half_of : (width : ℕ) → 1 ≤ width → 2 ^ width ≡ 2 ^ (width - 1) + 2 ^ (width - 1)
 half_of width above =
     let one_more : width ≡ suc (width - 1) = omega arith in
     let power : 2 ^ width ≡ 2 ^ suc (width - 1) = ap (λ k. 2 ^ k) one_more in
@@ -110,3 +110,11 @@ signed-law width n w within =
 
     lowered : 2 ^ (width - 1) ≤ n → signed width n ≡ pos n -ℤ pos (2 ^ width)
     lowered above = grind (arith, nat_tests)
+
+-- a sign is 0 or 1
+pub sign_of-IsMark : (width : ℕ) (a : ℤ) → IsMark (sign_of width a)
+sign_of-IsMark width a = by_cases (int_lt a (pos (2 ^ (width - 1))))
+  where
+    by_cases : (test : Bool) → IsMark (cond test (pos 0) (pos 1))
+    by_cases true = (omega (arith, ints), omega (arith, ints))
+    by_cases false = (omega (arith, ints), omega (arith, ints))

@@ -1,18 +1,16 @@
 -- The laws of the piece of a sum or a difference.
-use Rattle.std.proofs.Common.{◌≡◌, ℕ, ◌+◌, ◌-◌, ◌^◌, ◌<◌, ◌≤◌, Bool, true, false, cond, ◌||◌, ℤ, pos, negsuc, neg_ℤ, ◌+ℤ◌, ◌-ℤ◌, ◌*ℤ◌, ◌<ℤ◌, ◌≤ℤ◌, List, [], ◌∷◌, ◌++◌, length, map, append_assoc, length-append, slice_set, refl, sym, ap, ap₂, ◌∙◌, subst, arith}
-use Rattle.std.specs.Prelude.{int_lt, unsigned_abs, All}
+use Rattle.std.proofs.Common.{◌≡◌, ℕ, ◌+◌, ◌^◌, ◌<◌, ◌≤◌, Bool, true, false, cond, ◌||◌, ℤ, pos, negsuc, neg_ℤ, ◌+ℤ◌, ◌-ℤ◌, ◌*ℤ◌, ◌<ℤ◌, ◌≤ℤ◌, List, [], ◌∷◌, ◌++◌, length, map, length-append, slice_set, refl, sym, ap, ap₂, ◌∙◌, subst, arith}
+use Rattle.std.specs.Prelude.{int_lt, unsigned_abs}
 use Rattle.std.specs.Ordering.{int_eq}
-use Rattle.std.proofs.Math.Nat.{pow-le-pow_right}
 use Rattle.std.proofs.lemmas.Int.{ints}
 use Rattle.std.proofs.lemmas.List.{length-map}
 use Rattle.std.proofs.lemmas.Nat.{pow_pos}
 use Rattle.mix_system.specs.declared.literal.Lit.{Lit}
-use Rattle.mix_system.specs.declared.literal.Term.TheVariants.{Var, Row}
+use Rattle.mix_system.specs.declared.literal.Term.TheVariants.{Row}
 use Rattle.mix_system.specs.declared.row.Part.{Part}
 use Rattle.mix_system.specs.Fits.{IsTrueAt, IsInRange, term_value}
 use Rattle.mix_system.specs.Row.{number_at, row_value}
-use Rattle.mix_system.specs.System.{System, IsInner, Exists}
-use Rattle.mix_system.specs.Lit.{negation}
+use Rattle.mix_system.specs.System.{System}
 use Rattle.mix_system.proofs.ProductLaws.{neg_ℤ-*ℤ}
 use Rattle.ll_tree.specs.declared.op.Flags.{Flags}
 use Rattle.ir_meaning.specs.Whole.{IsWidth, signed}
@@ -22,22 +20,24 @@ use Rattle.wrap_rows.specs.declared.sum.SumKind.{SumKind}
 use Rattle.wrap_rows.specs.declared.sum.SumKind.TheVariants.{Plus, Minus}
 use Rattle.wrap_rows.specs.declared.sum.Sum.{Sum}
 use Rattle.wrap_rows.specs.Normal.{row_of, clause_of}
-use Rattle.wrap_rows.specs.Layout.{Holds, clause_from, at_most, at_least}
+use Rattle.wrap_rows.specs.Layout.{Holds, clause_from}
 use Rattle.wrap_rows.specs.Blocks.{equals, marks, sign_row, sign_clauses, sign_of}
 use Rattle.wrap_rows.specs.Vars.{IsMark, IsNumber, is_marked, value_at}
 use Rattle.wrap_rows.specs.Piece.{Lays, put_from, AreIn, names_own_rows, mark_of}
-use Rattle.wrap_rows.specs.Wrapping.{leaving, exceeding, listed, bars}
+use Rattle.wrap_rows.specs.Wrapping.{bars}
 use Rattle.wrap_rows.specs.Sum.{IsAt, ranges, vars, coefficient, sign_coefficient, carry_range, sign_ranges, carry_row, signed_row, signed_rows, signed_clauses, operands, literals, layout_of, layout, joined, exact, exact_signed, reduced, carry, is_poison, signs, numbers, CanTake, sum_of, meaning}
-use Rattle.wrap_rows.proofs.CaseLaws.{by_test, Each, Some_of, All-from_Each}
+use Rattle.wrap_rows.proofs.CaseLaws.{by_test, Each, Some_of}
 use Rattle.wrap_rows.proofs.BlockLaws.{each-said, all-true, Each-append, Each-left, Each-right, equals-said, equals-true}
-use Rattle.wrap_rows.proofs.SignLaws.{sign-law}
+use Rattle.wrap_rows.proofs.SignLaws.{sign-law, sign_of-IsMark}
 use Rattle.wrap_rows.proofs.LinearLaws.{once, less_once}
 use Rattle.wrap_rows.proofs.PutLaws.{put-before, put-first, put-second}
 use Rattle.wrap_rows.proofs.PlaceLaws.{put-third, put-fourth, put-fifth}
-use Rattle.wrap_rows.proofs.ReadLaws.{not_both, lt_said, mark_of-IsMark}
+use Rattle.wrap_rows.proofs.ReadLaws.{not_both, lt_said, mark_of-IsMark, reads_two}
 use Rattle.wrap_rows.proofs.MarkedLaws.{two_said, two_filled}
+use Rattle.wrap_rows.proofs.LayLaws.{three_more, two_and_two_more, lays_staged}
+use Rattle.wrap_rows.proofs.SmallLaws.{power_small}
 use Rattle.wrap_rows.proofs.WrapLaws.{number_of}
-use Rattle.wrap_rows.proofs.WrappedLaws.{Wraps, modulo-wraps, bars-said, signed_by, reads_two, sign_of-IsMark, lt_failed, each-listed, leaving-inner, leaving-opposite, exceeding-inner, exceeding-opposite}
+use Rattle.wrap_rows.proofs.WrappedLaws.{Wraps, modulo-wraps, bars-said, signed_by, lt_failed}
 
 own : (nuw nsw : Bool) (sum : Sum) (first : ℕ) → names_own_rows (layout_of nuw nsw sum first) ≡ true
 own true true sum first = refl
@@ -264,12 +264,6 @@ complete sum first point is_at takes within =
 
 -- ---- what is laid
 
-three_more : {A : Type 0} (xs : List A) (a b c : A) → ((xs ++ a ∷ []) ++ b ∷ []) ++ c ∷ [] ≡ xs ++ a ∷ b ∷ c ∷ []
-three_more xs a b c = simp append_assoc refl
-
-two_more : {A : Type 0} (xs : List A) (a b c d : A) → (xs ++ a ∷ b ∷ []) ++ c ∷ d ∷ [] ≡ xs ++ a ∷ b ∷ c ∷ d ∷ []
-two_more xs a b c d = simp append_assoc refl
-
 pub lays_signed : (sum : Sum) (sign : ℕ) (nsw : Bool) (old one two new : System) (parts : List Part) → nsw ≡ true
     → one ≡ record old { rows = old.rows ++ row_of (sign_row sum.width sum.a.number sign) ∷ []; clauses = old.clauses ++ map clause_of (sign_clauses sum.width (length old.rows)) }
     → two ≡ record one { rows = one.rows ++ row_of (sign_row sum.width sum.b.number (sign + 1)) ∷ []; clauses = one.clauses ++ map clause_of (sign_clauses sum.width (length one.rows)) }
@@ -284,7 +278,7 @@ lays_signed sum sign true old one two new parts set first second third is =
     ∙ ap {A = System} (λ s. record s { rows = s.rows ++ row_of parts ∷ [] }) (second ∙ ap {A = System} (λ s. record s { rows = s.rows ++ b ∷ []; clauses = s.clauses ++ map clause_of (sign_clauses width (length s.rows)) }) first)
     ∙ ap₂ (λ rows clauses. record { ranges = old.ranges; rows = rows; clauses = clauses })
     (three_more old.rows a b (row_of parts) ∙ ap {A = List Part} (λ p. old.rows ++ a ∷ b ∷ row_of p ∷ []) is)
-    (ap (λ r. (old.clauses ++ map clause_of (sign_clauses width (length old.rows))) ++ map clause_of (sign_clauses width r)) more ∙ two_more old.clauses _ _ _ _)
+    (ap (λ r. (old.clauses ++ map clause_of (sign_clauses width (length old.rows))) ++ map clause_of (sign_clauses width r)) more ∙ two_and_two_more old.clauses _ _ _ _)
 lays_signed sum sign false old one two new parts set first second third is = absurd (not_both false set refl)
 
 raised : (nuw nsw : Bool) (sum : Sum) (first r : ℕ)
@@ -294,48 +288,21 @@ raised true false sum first r = refl
 raised false true sum first r = refl
 raised false false sum first r = refl
 
-pub lays : (sum : Sum) (first : ℕ) (old one two new : System) (lits : List Lit)
+pub lays : (sum : Sum) (first : ℕ) (old one two new : System)
     → one ≡ record old { rows = old.rows ++ row_of (carry_row sum first) ∷ []; clauses = old.clauses ++ map clause_of (equals (length old.rows) (pos 0)) }
     → two ≡ record one { rows = one.rows ++ map row_of (signed_rows sum.flags.nsw sum (first + 1 + 1 + 1)); clauses = one.clauses ++ map clause_of (signed_clauses sum.flags.nsw sum.width (length one.rows) (length one.rows + 1)) }
-    → lits ≡ literals sum.flags.nuw sum.flags.nsw sum first (length old.rows + 3)
-    → new ≡ record two { clauses = two.clauses ++ map clause_of (marks (first + 1) (operands sum) lits) } → Lays (layout sum first) old new
-lays sum first old one two new lits carried says are third =
+    → new ≡ record two { clauses = two.clauses ++ map clause_of (marks (first + 1) (operands sum) (literals sum.flags.nuw sum.flags.nsw sum first (length old.rows + 3))) } → Lays (layout sum first) old new
+lays sum first old one two new carried says third =
     let nuw = sum.flags.nuw in
     let nsw = sum.flags.nsw in
     let r = length old.rows in
-    let row = row_of (carry_row sum first) in
-    let more_rows = map row_of (signed_rows nsw sum (first + 1 + 1 + 1)) in
-    let more : length (old.rows ++ row ∷ []) ≡ r + 1 = length-append old.rows (row ∷ []) in
-    let more_yet : length (old.rows ++ row ∷ []) + 1 ≡ r + 2 = omega (arith, more) in
-    let equation = map clause_of (equals r (pos 0)) in
-    let marked = map clause_of (marks (first + 1) (operands sum) (literals nuw nsw sum first (r + 3))) in
-    let signs = map clause_of (signed_clauses nsw sum.width (r + 1) (r + 2)) in
-    third
-    ∙ ap {A = List Lit} (λ l. record two { clauses = two.clauses ++ map clause_of (marks (first + 1) (operands sum) l) }) are
-    ∙ ap {A = System} (λ s. record s { clauses = s.clauses ++ marked }) (says ∙ ap {A = System} (λ s. record s { rows = s.rows ++ more_rows; clauses = s.clauses ++ map clause_of (signed_clauses nsw sum.width (length s.rows) (length s.rows + 1)) }) carried)
-    ∙ ap₂ (λ rows clauses. record { ranges = old.ranges; rows = rows; clauses = clauses })
-    (append_assoc old.rows (row ∷ []) more_rows)
-    (ap₂ (λ k l. ((old.clauses ++ equation) ++ map clause_of (signed_clauses nsw sum.width k l)) ++ marked) more more_yet
-    ∙ append_assoc (old.clauses ++ equation) signs marked
-    ∙ append_assoc old.clauses equation (signs ++ marked)
-    ∙ ap (λ clauses. old.clauses ++ clauses) (raised nuw nsw sum first r))
+    let marked = marks (first + 1) (operands sum) (literals nuw nsw sum first (r + 3)) in
+    let next : r + 1 + 1 ≡ r + 2 = omega arith in
+    lays_staged (carry_row sum first) (signed_rows nsw sum (first + 1 + 1 + 1)) (λ row. signed_clauses nsw sum.width row (row + 1)) marked old one two new carried says third
+    ∙ ap (λ k. let s : System = record { ranges = old.ranges; rows = old.rows ++ map row_of (layout sum first).rows; clauses = old.clauses ++ (map clause_of (equals r (pos 0)) ++ (map clause_of (signed_clauses nsw sum.width (r + 1) k) ++ map clause_of marked)) } in s) next
+    ∙ ap (λ clauses. let s : System = record { ranges = old.ranges; rows = old.rows ++ map row_of (layout sum first).rows; clauses = old.clauses ++ clauses } in s) (raised nuw nsw sum first r)
 
 -- ---- what is asked where it is laid
-
-pub literals_known : (sum : Sum) (first row vars rows : ℕ) → first + 1 + 1 < vars → (sum.flags.nsw ≡ true → row < rows) → All (λ lit. Exists vars rows lit.term) (literals sum.flags.nuw sum.flags.nsw sum first row)
-literals_known sum first row vars rows carry_known row_known =
-    All-from_Each (λ lit. Exists vars rows lit.term) (literals sum.flags.nuw sum.flags.nsw sum first row)
-    (each-listed (λ lit. Exists vars rows lit.term) sum.flags.nuw sum.flags.nsw (leaving (first + 1 + 1)) (exceeding sum.width row) (carry_known, (carry_known, tt)) (λ set. (row_known set, (row_known set, tt))))
-
-pub literals_inner : (sum : Sum) (first row : ℕ) → IsWidth sum.width → All (λ lit. IsInner lit.bound) (literals sum.flags.nuw sum.flags.nsw sum first row)
-literals_inner sum first row w =
-    All-from_Each (λ lit. IsInner lit.bound) (literals sum.flags.nuw sum.flags.nsw sum first row)
-    (each-listed (λ lit. IsInner lit.bound) sum.flags.nuw sum.flags.nsw (leaving (first + 1 + 1)) (exceeding sum.width row) (leaving-inner (first + 1 + 1)) (λ set. exceeding-inner sum.width row w))
-
-pub literals_opposite : (sum : Sum) (first row : ℕ) → IsWidth sum.width → All (λ lit. IsInner (negation lit).bound) (literals sum.flags.nuw sum.flags.nsw sum first row)
-literals_opposite sum first row w =
-    All-from_Each (λ lit. IsInner (negation lit).bound) (literals sum.flags.nuw sum.flags.nsw sum first row)
-    (each-listed (λ lit. IsInner (negation lit).bound) sum.flags.nuw sum.flags.nsw (leaving (first + 1 + 1)) (exceeding sum.width row) (leaving-opposite (first + 1 + 1)) (λ set. exceeding-opposite sum.width row w))
 
 pub signed_count : (sum : Sum) (sign : ℕ) (nsw : Bool) → nsw ≡ true → length (signed_rows nsw sum sign) ≡ 3
 signed_count sum sign true set = refl
@@ -398,22 +365,11 @@ module _ (sum : Sum) (first : ℕ) (old one two : System) where
       let all : length two.clauses ≡ length one.clauses + length more = ap {A = System} (λ s. length s.clauses) says ∙ length-append one.clauses more in
       omega (arith, all, two_clauses carried, sign_clause_count sum.flags.nsw (length one.rows) (length one.rows + 1))
 
--- the literals as they are listed
-pub literals_are : (sum : Sum) (first row : ℕ) (a b t u : Lit) (lits : List Lit) → lits ≡ listed sum.flags.nuw sum.flags.nsw (a ∷ b ∷ []) (t ∷ u ∷ [])
-    → a ≡ at_least (Var (first + 1 + 1)) (pos 1) → b ≡ at_most (Var (first + 1 + 1)) (negsuc 0) → t ≡ at_least (Row row) (pos (2 ^ (sum.width - 1))) → u ≡ at_most (Row row) (neg_ℤ (pos (2 ^ (sum.width - 1))) -ℤ pos 1)
-    → lits ≡ literals sum.flags.nuw sum.flags.nsw sum first row
-literals_are sum first row a b t u lits is is_a is_b is_t is_u =
-    is
-    ∙ ap₂ (listed sum.flags.nuw sum.flags.nsw) (ap₂ (λ p q. p ∷ q ∷ []) is_a is_b) (ap₂ (λ p q. p ∷ q ∷ []) is_t is_u)
-
 -- the sizes of the coefficients
 pub coefficient_small : (kind : SumKind) → unsigned_abs (coefficient kind) ≤ 1
 coefficient_small Plus = omega arith
 coefficient_small Minus = omega arith
 
-pub power_small : (width : ℕ) → IsWidth width → 2 ^ width ≤ 2 ^ 32
-power_small width w = pow-le-pow_right {n = 2} (omega arith) {i = width} {j = 32} (omega (arith, w.greatest))
-
 pub sign_coefficient_small : (kind : SumKind) (width : ℕ) → IsWidth width → unsigned_abs (sign_coefficient kind width) ≤ 2 ^ 32
-sign_coefficient_small Plus width w = omega (arith, ints, power_small width w)
-sign_coefficient_small Minus width w = power_small width w
+sign_coefficient_small Plus width w = omega (arith, ints, power_small width w.greatest)
+sign_coefficient_small Minus width w = power_small width w.greatest

@@ -1,5 +1,5 @@
 -- The laws of a truncation's piece.
-use Rattle.std.proofs.Common.{◌≡◌, ℕ, zero, suc, ◌+◌, ◌-◌, ◌*◌, ◌/◌, ◌%◌, ◌^◌, ◌<◌, ◌≤◌, Bool, true, false, cond, ◌&&◌, ◌||◌, ℤ, pos, negsuc, neg_ℤ, ◌+ℤ◌, ◌-ℤ◌, ◌*ℤ◌, ◌<ℤ◌, ◌≤ℤ◌, ◌⊎◌, List, [], ◌∷◌, ◌++◌, length, map, append_assoc, length-append, slice_set, refl, sym, ap, ap₂, ◌∙◌, inl, inr, subst, arith}
+use Rattle.std.proofs.Common.{◌≡◌, ℕ, ◌+◌, ◌-◌, ◌*◌, ◌/◌, ◌%◌, ◌^◌, ◌<◌, ◌≤◌, Bool, true, false, ◌&&◌, ◌||◌, ℤ, pos, neg_ℤ, ◌+ℤ◌, ◌-ℤ◌, ◌*ℤ◌, ◌≤ℤ◌, ◌⊎◌, List, [], ◌∷◌, ◌++◌, length, map, append_assoc, length-append, slice_set, refl, sym, ap, ap₂, ◌∙◌, inl, inr, subst, arith}
 use Rattle.std.specs.Prelude.{◌↔◌, unsigned_abs, All}
 use Rattle.std.specs.Ordering.{int_eq}
 use Rattle.std.proofs.lemmas.Int.{ints}
@@ -12,27 +12,28 @@ use Rattle.mix_system.specs.Row.{number_at}
 use Rattle.mix_system.specs.System.{System, IsInner, Exists}
 use Rattle.mix_system.specs.Lit.{negation}
 use Rattle.mix_system.proofs.ProductLaws.{neg_ℤ-*ℤ}
-use Rattle.ir_meaning.specs.Whole.{IsWidth, signed, modulo}
+use Rattle.ir_meaning.specs.Whole.{IsWidth, signed}
 use Rattle.ir_meaning.specs.Value.{poison_if}
 use Rattle.ir_meaning.specs.Rows.{wrapped, trunc_of}
 use Rattle.wrap_rows.specs.declared.trunc.Trunc.{Trunc}
 use Rattle.wrap_rows.specs.Normal.{row_of, clause_of}
 use Rattle.wrap_rows.specs.Layout.{Holds, clause_from, at_most, at_least}
 use Rattle.wrap_rows.specs.Blocks.{equals, marks, sign_row, sign_clauses, sign_of}
-use Rattle.wrap_rows.specs.Vars.{IsMark, IsNumber, IsValue, is_marked, value_at}
+use Rattle.wrap_rows.specs.Vars.{IsMark, IsNumber, is_marked, value_at}
 use Rattle.wrap_rows.specs.Piece.{Lays, put_from, AreIn, names_own_rows, mark_of}
 use Rattle.wrap_rows.specs.Wrapping.{exceeding, listed, bars}
 use Rattle.wrap_rows.specs.Trunc.{IsAt, vars, carry_var, helpers, ranges, carry_row, signed_row, literals, plain_layout, signed_layout, layout_of, layout, number, carry, barred, helper_numbers, numbers, CanTake, meaning}
-use Rattle.wrap_rows.proofs.CaseLaws.{by_test, Each, Some_of, All-from_Each}
+use Rattle.wrap_rows.proofs.CaseLaws.{Each, Some_of, All-from_Each}
 use Rattle.wrap_rows.proofs.BlockLaws.{each-said, all-true, Each-append, equals-said, equals-true}
-use Rattle.wrap_rows.proofs.SignLaws.{sign-law}
+use Rattle.wrap_rows.proofs.SignLaws.{sign-law, sign_of-IsMark}
 use Rattle.wrap_rows.proofs.LinearLaws.{once, less_once}
 use Rattle.wrap_rows.proofs.PutLaws.{put-before, put-first, put-second}
 use Rattle.wrap_rows.proofs.PlaceLaws.{put-third, put-fourth}
 use Rattle.wrap_rows.proofs.ReadLaws.{not_both, mark_of-IsMark, reads_one}
 use Rattle.wrap_rows.proofs.MarkedLaws.{one_said, one_filled}
+use Rattle.wrap_rows.proofs.LayLaws.{three_more}
 use Rattle.wrap_rows.proofs.WrapLaws.{number_of}
-use Rattle.wrap_rows.proofs.WrappedLaws.{Wraps, modulo-wraps, leaves, leaving-said, exceeds, exceeding-said, listed-said, signed_by, sign_of-IsMark, each-listed, exceeding-inner, exceeding-opposite}
+use Rattle.wrap_rows.proofs.WrappedLaws.{Wraps, modulo-wraps, leaves, leaving-said, exceeds, exceeding-said, listed-said, signed_by, each-listed, exceeding-inner, exceeding-opposite}
 
 own : (nuw nsw : Bool) (trunc : Trunc) (first : ℕ) → names_own_rows (layout_of nuw nsw trunc first) ≡ true
 own true true trunc first = refl
@@ -266,9 +267,6 @@ puts_plain true trunc first point x m q clear is_q = absurd (not_both true refl 
 puts_plain false trunc first point x m q clear is_q = ap (λ v. put_from first (x ∷ m ∷ v ∷ []) point) is_q
 
 -- ---- what is laid
-
-three_more : {A : Type 0} (xs : List A) (a b c : A) → ((xs ++ a ∷ []) ++ b ∷ []) ++ c ∷ [] ≡ xs ++ a ∷ b ∷ c ∷ []
-three_more xs a b c = simp append_assoc refl
 
 pub literals_plain : (nuw nsw : Bool) (trunc : Trunc) (carry row : ℕ) (a : Lit) (lits : List Lit) → nsw ≡ false → lits ≡ listed nuw nsw (a ∷ []) [] → a ≡ at_least (Var carry) (pos 1) → lits ≡ literals nuw false trunc carry row
 literals_plain nuw nsw trunc carry row a lits clear is is_a = is ∙ ap₂ (λ n p. listed nuw n (p ∷ []) []) clear is_a

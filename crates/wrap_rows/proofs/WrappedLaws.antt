@@ -1,26 +1,27 @@
 -- The law of wrapping: a number and a carry that make up an exact result, and what the flags bar.
-use Rattle.std.proofs.Common.{◌≡◌, ℕ, zero, suc, ◌-◌, ◌^◌, ◌≤◌, Bool, true, false, cond, not, ◌&&◌, ◌||◌, ℤ, pos, negsuc, neg_ℤ, ◌+ℤ◌, ◌-ℤ◌, ◌*ℤ◌, ◌≤ℤ◌, ◌⊎◌, List, [], ◌∷◌, ◌++◌, refl, sym, ap, ◌∙◌, inl, inr, arith}
-use Rattle.std.specs.Prelude.{◌↔◌, int_lt, int_le, unsigned_abs}
-use Rattle.std.specs.Ordering.{int_eq}
+use Rattle.std.proofs.Common.{◌≡◌, ℕ, zero, suc, ◌+◌, ◌-◌, ◌^◌, ◌<◌, ◌≤◌, Bool, true, false, cond, not, ◌&&◌, ◌||◌, ℤ, pos, negsuc, neg_ℤ, ◌+ℤ◌, ◌-ℤ◌, ◌*ℤ◌, ◌≤ℤ◌, ◌⊎◌, List, [], ◌∷◌, ◌++◌, length, map, length-append, refl, sym, ap, ap₂, ◌∙◌, inl, inr, arith}
+use Rattle.std.specs.Prelude.{◌↔◌, int_lt, int_le, unsigned_abs, All}
 use Rattle.std.proofs.Math.Nat.{pow-le-pow_right}
 use Rattle.std.proofs.lemmas.Int.{ints, by_lt_z}
-use Rattle.mix_system.specs.declared.literal.Term.TheVariants.{Row}
+use Rattle.std.proofs.lemmas.List.{length-map}
+use Rattle.mix_system.specs.declared.literal.Lit.{Lit}
+use Rattle.mix_system.specs.declared.literal.Term.TheVariants.{Var, Row}
 use Rattle.mix_system.specs.declared.row.Part.{Part}
 use Rattle.mix_system.specs.Fits.{IsTrueAt, term_value}
 use Rattle.mix_system.specs.Lit.{negation}
 use Rattle.mix_system.specs.Row.{number_at}
-use Rattle.mix_system.specs.System.{IsInner}
-use Rattle.ir_meaning.specs.declared.value.Val.{Val}
+use Rattle.mix_system.specs.System.{IsInner, Exists}
 use Rattle.ir_meaning.specs.Whole.{IsWidth, signed, modulo, is_unsigned, is_signed}
-use Rattle.ir_meaning.specs.Value.{poison_if, on_numbers}
 use Rattle.ir_meaning.proofs.ModuloLaws.{modulo-pos, modulo-negsuc}
-use Rattle.wrap_rows.specs.Blocks.{sign_of}
-use Rattle.wrap_rows.specs.Vars.{IsNumber, IsMark}
-use Rattle.wrap_rows.specs.Wrapping.{leaving, exceeding, listed}
-use Rattle.wrap_rows.proofs.CaseLaws.{by_test, Each, Some_of}
+use Rattle.wrap_rows.specs.declared.wrapping.Wrapped.{Wrapped}
+use Rattle.wrap_rows.specs.Blocks.{from_operand, from_listed, closing, marks, sign_of}
+use Rattle.wrap_rows.specs.Layout.{at_most, at_least}
+use Rattle.wrap_rows.specs.Vars.{IsNumber}
+use Rattle.wrap_rows.specs.Wrapping.{leaving, exceeding, listed, literals}
+use Rattle.wrap_rows.proofs.CaseLaws.{Each, Some_of, All-from_Each}
 use Rattle.wrap_rows.proofs.BlockLaws.{Each-append}
 use Rattle.wrap_rows.proofs.SignLaws.{signed-law}
-use Rattle.wrap_rows.proofs.ReadLaws.{same_tests, not_both, eq_yes, eq_said, le_yes, le_no, lt_yes, lt_no}
+use Rattle.wrap_rows.proofs.ReadLaws.{not_both, le_yes, le_no, lt_yes, lt_no}
 use Rattle.wrap_rows.proofs.WrapLaws.{number_of}
 
 -- ---- an exact result is the number, with 2^width times the carry
@@ -150,38 +151,6 @@ signed_by width a sign w is_a is =
     ∙ ap (λ z. z -ℤ (pos (2 ^ width) *ℤ sign_of width z)) whole
     ∙ ap (λ s. a -ℤ (pos (2 ^ width) *ℤ s)) (sym is)
 
--- ---- an operation of two numbers
-
-pub reads_two : (f : ℕ → ℕ → Val) (x a b m ma mb : ℤ) (barred : Bool) → (m ≡ pos 1 ↔ ((ma ≡ pos 1) ⊎ ((mb ≡ pos 1) ⊎ (barred ≡ true)))) → f (unsigned_abs a) (unsigned_abs b) ≡ poison_if barred (unsigned_abs x)
-    → poison_if (int_eq m (pos 1)) (unsigned_abs x) ≡ on_numbers f (poison_if (int_eq ma (pos 1)) (unsigned_abs a)) (poison_if (int_eq mb (pos 1)) (unsigned_abs b))
-reads_two f x a b m ma mb barred marked means =
-    by_test (λ test. poison_if (int_eq m (pos 1)) (unsigned_abs x) ≡ on_numbers f (poison_if test (unsigned_abs a)) (poison_if (int_eq mb (pos 1)) (unsigned_abs b))) (int_eq ma (pos 1))
-    (λ passes. ap (λ test. poison_if test (unsigned_abs x)) (eq_yes m (pos 1) (marked.1 (inl (eq_said ma (pos 1) passes)))))
-    (λ fails. by_test (λ test. poison_if (int_eq m (pos 1)) (unsigned_abs x) ≡ on_numbers f (poison_if false (unsigned_abs a)) (poison_if test (unsigned_abs b))) (int_eq mb (pos 1))
-    (λ passes. ap (λ test. poison_if test (unsigned_abs x)) (eq_yes m (pos 1) (marked.1 (inr (inl (eq_said mb (pos 1) passes))))))
-    (λ other_fails. ap (λ test. poison_if test (unsigned_abs x)) (same fails other_fails) ∙ sym means))
-  where
-    same : int_eq ma (pos 1) ≡ false → int_eq mb (pos 1) ≡ false → int_eq m (pos 1) ≡ barred
-    same fails other_fails =
-        same_tests (int_eq m (pos 1)) barred
-        (λ passes. elim (marked.0 (eq_said m (pos 1) passes)) [
-          | inl poisoned ↦ absurd (not_both (int_eq ma (pos 1)) (eq_yes ma (pos 1) poisoned) fails)
-          | inr rest ↦ elim rest [
-            | inl poisoned ↦ absurd (not_both (int_eq mb (pos 1)) (eq_yes mb (pos 1) poisoned) other_fails)
-            | inr bars ↦ bars
-          ]
-        ])
-        (λ bars. eq_yes m (pos 1) (marked.1 (inr (inr bars))))
-
--- ---- signs
-
-pub sign_of-IsMark : (width : ℕ) (a : ℤ) → IsMark (sign_of width a)
-sign_of-IsMark width a = by_cases (int_lt a (pos (2 ^ (width - 1))))
-  where
-    by_cases : (test : Bool) → IsMark (cond test (pos 0) (pos 1))
-    by_cases true = (omega (arith, ints), omega (arith, ints))
-    by_cases false = (omega (arith, ints), omega (arith, ints))
-
 pub lt_failed : (x y : ℤ) → int_lt x y ≡ false → y ≤ℤ x
 lt_failed x y fails = by_lt_z x y (λ below. absurd (not_both (int_lt x y) (lt_yes x y below) fails)) (λ above. above)
 
@@ -221,4 +190,40 @@ exceeding-opposite width row w =
     let small = half_small width w in (
       record { above_least = omega (arith, ints, small); below_greatest = omega (arith, ints, small) },
       (record { above_least = omega (arith, ints, small); below_greatest = omega (arith, ints, small) }, tt),
+    )
+
+-- ---- the literals of a result that is exact but for its carry
+
+pub literals_are : (wrapped : Wrapped) (a b t u : Lit) (lits : List Lit) → lits ≡ listed wrapped.flags.nuw wrapped.flags.nsw (a ∷ b ∷ []) (t ∷ u ∷ [])
+    → a ≡ at_least (Var wrapped.carry) (pos 1) → b ≡ at_most (Var wrapped.carry) (negsuc 0) → t ≡ at_least (Row wrapped.row) (pos (2 ^ (wrapped.width - 1))) → u ≡ at_most (Row wrapped.row) (neg_ℤ (pos (2 ^ (wrapped.width - 1))) -ℤ pos 1)
+    → lits ≡ literals wrapped
+literals_are wrapped a b t u lits is is_a is_b is_t is_u =
+    is
+    ∙ ap₂ (listed wrapped.flags.nuw wrapped.flags.nsw) (ap₂ (λ p q. p ∷ q ∷ []) is_a is_b) (ap₂ (λ p q. p ∷ q ∷ []) is_t is_u)
+
+pub literals_known : (wrapped : Wrapped) (vars rows : ℕ) → wrapped.carry < vars → (wrapped.flags.nsw ≡ true → wrapped.row < rows) → All (λ lit. Exists vars rows lit.term) (literals wrapped)
+literals_known wrapped vars rows carry_known row_known =
+    All-from_Each (λ lit. Exists vars rows lit.term) (literals wrapped)
+    (each-listed (λ lit. Exists vars rows lit.term) wrapped.flags.nuw wrapped.flags.nsw (leaving wrapped.carry) (exceeding wrapped.width wrapped.row) (carry_known, (carry_known, tt)) (λ set. (row_known set, (row_known set, tt))))
+
+pub literals_inner : (wrapped : Wrapped) → IsWidth wrapped.width → All (λ lit. IsInner lit.bound) (literals wrapped)
+literals_inner wrapped w =
+    All-from_Each (λ lit. IsInner lit.bound) (literals wrapped)
+    (each-listed (λ lit. IsInner lit.bound) wrapped.flags.nuw wrapped.flags.nsw (leaving wrapped.carry) (exceeding wrapped.width wrapped.row) (leaving-inner wrapped.carry) (λ set. exceeding-inner wrapped.width wrapped.row w))
+
+pub literals_opposite : (wrapped : Wrapped) → IsWidth wrapped.width → All (λ lit. IsInner (negation lit).bound) (literals wrapped)
+literals_opposite wrapped w =
+    All-from_Each (λ lit. IsInner (negation lit).bound) (literals wrapped)
+    (each-listed (λ lit. IsInner (negation lit).bound) wrapped.flags.nuw wrapped.flags.nsw (leaving wrapped.carry) (exceeding wrapped.width wrapped.row) (leaving-opposite wrapped.carry) (λ set. exceeding-opposite wrapped.width wrapped.row w))
+
+pub marks_count : (mark : ℕ) (operands : List ℕ) (listed : List Lit) → length (marks mark operands listed) ≡ length operands + (length listed + 1)
+marks_count mark operands listed =
+    let front = map (from_operand mark) operands in
+    let middle = map (from_listed mark) listed in
+    omega (
+      arith,
+      length-append front (middle ++ closing mark operands listed ∷ []),
+      length-append middle (closing mark operands listed ∷ []),
+      length-map operands (from_operand mark),
+      length-map listed (from_listed mark),
     )

@@ -1,30 +1,28 @@
 -- The laws of a zero extension's piece.
-use Rattle.std.proofs.Common.{◌≡◌, ℕ, suc, ◌+◌, ◌-◌, ◌^◌, ◌<◌, ◌≤◌, Bool, true, false, cond, ◌&&◌, ◌||◌, not, nat_lt, ℤ, pos, neg_ℤ, ◌-ℤ◌, ◌<ℤ◌, ◌≤ℤ◌, ◌⊎◌, List, [], ◌∷◌, ◌++◌, length, refl, sym, ap, ◌∙◌, inl, inr, subst, arith}
+use Rattle.std.proofs.Common.{◌≡◌, ℕ, ◌+◌, ◌-◌, ◌^◌, ◌<◌, ◌≤◌, Bool, true, cond, ◌&&◌, ◌||◌, ℤ, pos, ◌-ℤ◌, ◌≤ℤ◌, ◌⊎◌, List, [], ◌∷◌, ◌++◌, length, refl, sym, ap, ◌∙◌, inl, inr, subst, arith}
 use Rattle.std.specs.Prelude.{◌↔◌, int_lt, int_le, unsigned_abs}
-use Rattle.std.specs.Ordering.{int_eq}
 use Rattle.std.proofs.Math.Nat.{pow-le-pow_right}
 use Rattle.std.proofs.lemmas.Bool.Decides.{nat_tests}
 use Rattle.std.proofs.lemmas.Int.{ints, by_lt_z}
 use Rattle.std.proofs.lemmas.Nat.{pow_pos}
 use Rattle.mix_system.specs.declared.literal.Term.TheVariants.{Var, Row}
-use Rattle.mix_system.specs.declared.literal.Lit.{Lit}
 use Rattle.mix_system.specs.declared.row.Part.{Part}
 use Rattle.mix_system.specs.Fits.{IsTrueAt, term_value}
 use Rattle.mix_system.specs.Row.{number_at}
-use Rattle.ir_meaning.specs.Whole.{IsWidth, signed}
-use Rattle.ir_meaning.specs.Value.{poison_if, on_number}
+use Rattle.ir_meaning.specs.Whole.{signed}
+use Rattle.ir_meaning.specs.Value.{poison_if}
 use Rattle.ir_meaning.specs.Rows.{zext_of}
 use Rattle.wrap_rows.specs.declared.zext.Zext.{Zext}
 use Rattle.wrap_rows.specs.Layout.{Holds, at_least}
 use Rattle.wrap_rows.specs.Blocks.{equals, marks}
-use Rattle.wrap_rows.specs.Vars.{IsMark, IsNumber, is_marked, value_at}
+use Rattle.wrap_rows.specs.Vars.{IsMark, is_marked, value_at}
 use Rattle.wrap_rows.specs.Piece.{put_from, AreIn, names_own_rows, mark_of}
 use Rattle.wrap_rows.specs.Zext.{IsAt, ranges, listed, layout, vars, CanTake, numbers, meaning}
-use Rattle.wrap_rows.proofs.CaseLaws.{by_test, Each, Some_of}
+use Rattle.wrap_rows.proofs.CaseLaws.{by_test, Some_of}
 use Rattle.wrap_rows.proofs.BlockLaws.{each-said, all-true, Each-append, equals-said, equals-true, marks-said, marks-true}
 use Rattle.wrap_rows.proofs.LinearLaws.{once, less_once}
 use Rattle.wrap_rows.proofs.PutLaws.{put-before, put-first, put-second}
-use Rattle.wrap_rows.proofs.ReadLaws.{same_tests, eq_yes, eq_said, le_yes, le_said, lt_yes, lt_said, lt_no, le_no, mark_of-IsMark, mark_of-one, or_said, or_left, or_right, flag_lists, reads_one}
+use Rattle.wrap_rows.proofs.ReadLaws.{same_tests, eq_yes, eq_said, le_yes, le_said, lt_yes, lt_said, mark_of-IsMark, mark_of-one, or_said, or_left, or_right, flag_lists, reads_one}
 
 pub own_rows : (zext : Zext) (first : ℕ) → names_own_rows (layout zext first) ≡ true
 own_rows zext first =

@@ -5,9 +5,12 @@ pub mod Normal
 pub mod Phi
 pub mod Piece
 pub mod Ranged
+pub mod Scaled
 pub mod Select
 pub mod Sext
+pub mod ShiftOut
 pub mod ShiftRight
+pub mod Small
 pub mod Sum
 pub mod Trunc
 pub mod Vars

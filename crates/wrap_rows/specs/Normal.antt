@@ -1,5 +1,5 @@
 -- The forms in which rows and clauses stand in a system: a row's variables rise and no part is zero; no literal stands twice in a clause.
-use Rattle.std.specs.Prelude.{ℕ, ◌+◌, unsigned_abs, Bool, true, false, ◌&&◌, ◌==◌, nat_lt, if◌then◌else◌, ℤ, pos, ◌+ℤ◌, List, [], ◌∷◌, ◌++◌, fold}
+use Rattle.std.specs.Prelude.{ℕ, ◌+◌, unsigned_abs, Bool, true, false, ◌&&◌, ◌==◌, nat_lt, if◌then◌else◌, pos, ◌+ℤ◌, List, [], ◌∷◌, ◌++◌, fold}
 use Rattle.std.specs.List.{list_any, prefix_len}
 use Rattle.std.specs.Ordering.{int_eq}
 use Rattle.mix_system.specs.declared.literal.Term.{Term}

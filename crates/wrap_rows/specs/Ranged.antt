@@ -1,5 +1,5 @@
 -- The piece of a parameter with a range: its own variable is the mark of an argument outside the range.
-use Rattle.std.specs.Prelude.{ℕ, ◌+◌, ◌^◌, ◌<◌, Bool, ◌||◌, ◌&&◌, nat_lt, if◌then◌else◌, ℤ, pos, ◌-ℤ◌, int_lt, int_le, unsigned_abs, List, [], ◌∷◌}
+use Rattle.std.specs.Prelude.{ℕ, ◌^◌, ◌<◌, Bool, ◌||◌, ◌&&◌, nat_lt, if◌then◌else◌, ℤ, pos, ◌-ℤ◌, int_lt, int_le, unsigned_abs, List, [], ◌∷◌}
 use Rattle.mix_system.specs.declared.literal.Term.TheVariants.{Var}
 use Rattle.mix_system.specs.declared.literal.Lit.{Lit}
 use Rattle.mix_system.specs.Row.{number_at}

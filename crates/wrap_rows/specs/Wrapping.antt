@@ -6,6 +6,7 @@ use Rattle.mix_system.specs.declared.literal.Lit.{Lit}
 use Rattle.ll_tree.specs.declared.op.Flags.{Flags}
 use Rattle.ir_meaning.specs.Whole.{is_unsigned}
 use Rattle.ir_meaning.specs.Rows.{is_barred}
+use Rattle.wrap_rows.specs.declared.wrapping.Wrapped.{Wrapped}
 use Rattle.wrap_rows.specs.Layout.{at_most, at_least}
 
 -- The exact result leaves the numbers of the width: its carry isn't 0.
@@ -23,6 +24,11 @@ exceeding width row =
 -- the literals of `nuw`, then those of `nsw`
 abbrev pub listed : (nuw nsw : Bool) → List Lit → List Lit → List Lit
 listed nuw nsw leaves exceeds = (if nuw then leaves else []) ++ (if nsw then exceeds else [])
+
+-- the literals of a result that is exact but for its carry
+abbrev pub literals : Wrapped → List Lit
+literals wrapped =
+    listed wrapped.flags.nuw wrapped.flags.nsw (leaving wrapped.carry) (exceeding wrapped.width wrapped.row)
 
 -- whether a flag bars an exact result, given the exact result of the signed readings
 abbrev pub bars : Flags → ℕ → ℤ → ℤ → Bool

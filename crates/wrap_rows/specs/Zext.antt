@@ -1,5 +1,5 @@
 -- The piece of a zero extension.
-use Rattle.std.specs.Prelude.{ℕ, ◌+◌, ◌-◌, ◌^◌, ◌<◌, Bool, ◌&&◌, ◌||◌, if◌then◌else◌, ℤ, pos, neg_ℤ, List, [], ◌∷◌, ◌++◌, int_le}
+use Rattle.std.specs.Prelude.{ℕ, ◌+◌, ◌-◌, ◌^◌, ◌<◌, ◌&&◌, ◌||◌, if◌then◌else◌, ℤ, pos, neg_ℤ, List, [], ◌∷◌, ◌++◌, int_le}
 use Rattle.mix_system.specs.declared.literal.Term.TheVariants.{Var}
 use Rattle.mix_system.specs.declared.literal.Lit.{Lit}
 use Rattle.mix_system.specs.Row.{number_at}

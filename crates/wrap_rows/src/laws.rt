@@ -1,16 +1,20 @@
 //! Laws of the definitions that contracts cite. Each is the contract of a function that does nothing.
 
-ghost use Rattle.std.specs.Prelude.{◌≡◌, ◌<◌, ◌^◌, ◌-ℤ◌, ◌*ℤ◌, ◌⊎◌, ◌↔◌, ℕ, ℤ, pos, List, [], slice_index_or, length, map, All, Any};
+ghost use Rattle.std.specs.Prelude.{◌≡◌, ◌<◌, ◌^◌, ◌-ℤ◌, ◌*ℤ◌, ◌⊎◌, ◌↔◌, ◌++◌, ℕ, ℤ, pos, List, [], slice_index_or, length, map, All, Any};
 ghost use Rattle.mix_system.specs.declared.literal.Lit.{Lit};
 ghost use Rattle.mix_system.specs.declared.literal.Term.TheVariants.{Row};
 ghost use Rattle.mix_system.specs.declared.row.Part.{Part};
 ghost use Rattle.mix_system.specs.Fits.{IsTrueAt, term_value};
 ghost use Rattle.mix_system.specs.Row.{number_at};
+ghost use Rattle.mix_system.specs.Calm.{IsCalm};
+ghost use Rattle.mix_system.specs.System.{System};
 ghost use Rattle.wrap_rows.specs.Blocks.{equals, marks, sign_of, sign_row, sign_clauses, compared, StandsSo};
 ghost use Rattle.ll_tree.specs.declared.op.Pred.{Pred};
 ghost use Rattle.ir_meaning.specs.Whole.{IsWidth, signed};
 ghost use Rattle.wrap_rows.specs.Vars.{IsNumber, IsMark};
 ghost use Rattle.wrap_rows.specs.Layout.{Layout, IsOfRows, StandsAt, clause_from, Holds};
+ghost use Rattle.wrap_rows.specs.Piece.{Lays};
+ghost use Rattle.wrap_rows.specs.Small.{IsNarrow, IsSmall, IsCompact};
 
 /// Where a layout's rows stand in a system, the clauses that it lays there are true at a point exactly where the layout holds there.
 pub fn what_is_laid_says_what_the_layout_says()
@@ -57,4 +61,14 @@ pub fn what_a_sign_says()
         ↔ (number_at point sign ≡ sign_of width (number_at point number)) }
     ensures reads { (width n : ℕ) → IsWidth width → n < 2 ^ width
         → signed width n ≡ pos n -ℤ (pos (2 ^ width) *ℤ sign_of width (pos n)) }
+{}
+
+/// A compact system is calm. It stays compact where narrow ranges are added, and where a small layout is laid behind it.
+pub fn what_is_compact_is_calm()
+    ensures calm { (system : System) → IsCompact system → IsCalm system }
+    ensures declared { (system : System) (more : List (ℤ × ℤ))
+        → IsCompact system → All IsNarrow more
+        → IsCompact (record system { ranges = system.ranges ++ more }) }
+    ensures laid { (layout : Layout) (old new : System)
+        → IsCompact old → IsSmall layout → Lays layout old new → IsCompact new }
 {}

@@ -1,9 +1,10 @@
-ghost use Rattle.std.specs.Prelude.{◌≡◌, ◌+◌, ◌^◌, ◌<◌, ◌≤◌, ◌++◌, ℕ, ℤ, List, length, true, IfOk, OnOk};
+ghost use Rattle.std.specs.Prelude.{◌≡◌, ◌+◌, ◌^◌, ◌<◌, ◌≤◌, ◌++◌, ℕ, ℤ, List, length, true, All, IfOk, OnOk};
 ghost use Rattle.ir_meaning.specs.declared.value.Val.{Val as Value};
 ghost use Rattle.wrap_rows.specs.declared.vars.ValueVars.{ValueVars as Vars};
 ghost use Rattle.wrap_rows.specs.Layout.{Layout, Holds};
 ghost use Rattle.wrap_rows.specs.Vars.{value_at};
 ghost use Rattle.wrap_rows.specs.Piece.{Lays, put_from, AreIn, names_own_rows};
+ghost use Rattle.wrap_rows.specs.Small.{IsNarrow, IsSmall};
 
 use crate::ValueVars;
 use ir_meaning::Val;
@@ -88,6 +89,12 @@ pub trait Piece {
         requires holds { Holds (layout self.now first) point.now }
         ensures read { result ≡ value_at (vars self.now first) point.now }
         ensures sound { result ≡ meaning self.now point.now };
+
+    /// It does nothing. Its ranges are narrow, and the numbers of its rows and clauses are small.
+    fn stays_calm(&self, first: u32)
+        requires at { is_at self.now first }
+        ensures narrow { All IsNarrow (ranges self.now) }
+        ensures small { IsSmall (layout self.now first) };
 
     /// Where number and mark of its value stand.
     fn vars(&self, first: u32) -> ValueVars

@@ -65,6 +65,8 @@ impl Piece for Sext {
         value_at(self.vars(first), point)
     }
 
+    fn stays_calm(&self, _: u32) {}
+
     fn vars(&self, first: u32) -> ValueVars {
         ValueVars {
             number: first,

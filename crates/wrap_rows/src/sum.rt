@@ -7,11 +7,11 @@ ghost use Rattle.wrap_rows.specs.Blocks.{equals};
 ghost use Rattle.wrap_rows.specs.Sum.{IsAt, ranges, sign_ranges, CanTake, numbers, coefficient, sign_coefficient, carry_range, joined, exact, exact_signed, reduced, carry, barred, is_poison, carry_row, signed_rows, signed_clauses};
 
 use crate::blocks::{add_equation, add_sign, greatest, is_marked, mark_of, power, sign_of};
-use crate::wrapping::{is_barred, listed, signed_of};
-use crate::{Piece, ValueVars, add_marks, add_sum, at_least, at_most, times, value_at};
+use crate::wrapping::{Wrapped, add_wrapped_marks, is_barred, signed_of};
+use crate::{Piece, ValueVars, add_sum, times, value_at};
 use ir_meaning::Val;
 use ll_tree::Flags;
-use mix_system::{System, Term};
+use mix_system::System;
 use std::alloc::Global;
 use wx_base::NoMemory;
 
@@ -65,20 +65,16 @@ impl Piece for Sum {
     }
 
     fn lay(&self, alloc: Global, first: u32, into: &mut System) -> Result<(), NoMemory> {
-        let carry = Term::Var(first + 1 + 1);
         let row = self.add_carry(alloc, first, into)?;
         self.add_signed(alloc, first + 1 + 1 + 1, into)?;
-        let signed = Term::Row(row + 3);
-        let half = power(self.width - 1);
-        let lits = [
-            at_least(carry, 1),
-            at_most(carry, -1),
-            at_least(signed, half),
-            at_most(signed, -half - 1),
-        ];
-        let listed = listed(self.flags, 2, &lits);
+        let wrapped = Wrapped {
+            flags: self.flags,
+            width: self.width,
+            carry: first + 1 + 1,
+            row: row + 3,
+        };
         let operands = [self.a.mark, self.b.mark];
-        add_marks(alloc, into, first + 1, &operands, listed)
+        add_wrapped_marks(alloc, into, first + 1, &operands, wrapped)
     }
 
     fn fill(&self, first: u32, point: &mut [i128]) {
@@ -88,6 +84,8 @@ impl Piece for Sum {
     fn sound(&self, first: u32, point: &[i128]) -> Val {
         value_at(self.vars(first), point)
     }
+
+    fn stays_calm(&self, _: u32) {}
 
     fn vars(&self, first: u32) -> ValueVars {
         ValueVars {

@@ -1,14 +1,60 @@
 // What pieces share whose number is an exact result modulo `2^width`.
-ghost use Rattle.std.specs.Prelude.{◌≡◌, ◌-◌, ◌^◌, ◌≤◌, ◌≤ℤ◌, ◌<ℤ◌, ◌-ℤ◌, pos, neg_ℤ, take, drop, length, unsigned_abs};
+ghost use Rattle.std.specs.Prelude.{◌≡◌, ◌-◌, ◌^◌, ◌≤◌, ◌≤ℤ◌, ◌<ℤ◌, ◌-ℤ◌, ◌+◌, ◌<◌, ◌++◌, pos, neg_ℤ, true, map, take, drop, length, unsigned_abs, All, OnOk};
 ghost use Rattle.ir_meaning.specs.Whole.{IsWidth, signed, is_unsigned, is_signed};
 ghost use Rattle.wrap_rows.specs.Vars.{IsNumber};
 ghost use Rattle.wrap_rows.specs.Layout.{at_most};
-ghost use Rattle.wrap_rows.specs.Wrapping.{listed, bars};
+ghost use Rattle.wrap_rows.specs.Normal.{clause_of};
+ghost use Rattle.wrap_rows.specs.Blocks.{marks};
+ghost use Rattle.wrap_rows.specs.Wrapping.{listed, literals, bars};
 
-use crate::at_most;
 use crate::blocks::power;
+use crate::{add_marks, at_least, at_most};
 use ll_tree::Flags;
-use mix_system::{Lit, Term};
+use mix_system::{Lit, System, Term};
+use std::alloc::Global;
+use wx_base::NoMemory;
+
+/// What the flags of wrapping list of an exact result that is brought back to the numbers of the width:
+/// the variable of the carry, and the row of the exact signed result.
+#[derive(Clone, Copy, Debug)]
+pub struct Wrapped {
+    pub flags: Flags,
+    pub width: u32,
+    pub carry: u32,
+    pub row: u32,
+}
+
+/// Adds the clauses of the mark of such a result.
+///
+/// After want of memory some of them may stand.
+pub fn add_wrapped_marks(
+    alloc: Global,
+    into: &mut System,
+    mark: u32,
+    operands: &[u32],
+    wrapped: Wrapped,
+) -> Result<(), NoMemory>
+    requires width { IsWidth wrapped.width }
+    requires mark { mark < length into.old.ranges }
+    requires operands { All (λ operand. operand < length into.old.ranges) operands.now }
+    requires carry { wrapped.carry < length into.old.ranges }
+    requires row { wrapped.flags.nsw ≡ true → wrapped.row < length into.old.rows }
+    requires room { length into.old.clauses + length
+        (marks mark operands.now (literals wrapped)) < 2 ^ 31 }
+    ensures { OnOk result (into.new ≡ record into.old {
+      clauses = into.old.clauses ++ map clause_of (marks mark operands.now (literals wrapped));
+    }) }
+{
+    let (carry, row) = (Term::Var(wrapped.carry), Term::Row(wrapped.row));
+    let lits = [
+        at_least(carry, 1),
+        at_most(carry, -1),
+        at_least(row, power(wrapped.width - 1)),
+        below_signed(wrapped.width, row),
+    ];
+    let listed = listed(wrapped.flags, 2, &lits);
+    add_marks(alloc, into, mark, operands, listed)
+}
 
 /// The literals that flags list. The first so many are those of `nuw`, the others those of `nsw`.
 pub fn listed(flags: Flags, leaving: usize, lits: &[Lit]) -> &[Lit]

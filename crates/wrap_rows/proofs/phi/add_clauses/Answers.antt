@@ -1,4 +1,4 @@
-use Rattle.std.proofs.Common.{◌≡◌, ℕ, ◌∙◌, ◌+◌, ◌*◌, List, length, length-append, map, ◌++◌, append_assoc, take, get_or, sym, ap, arith}
+use Rattle.std.proofs.Common.{◌≡◌, ℕ, ◌∙◌, ◌+◌, List, length, length-append, map, ◌++◌, append_assoc, take, get_or, sym, ap, arith}
 use Rattle.std.proofs.lemmas.List.{length-map, length-take-le}
 use Rattle.mix_system.specs.System.{System}
 use Rattle.mix_system.specs.declared.literal.Lit.{Lit}

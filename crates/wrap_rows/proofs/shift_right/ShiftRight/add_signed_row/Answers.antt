@@ -1,7 +1,6 @@
 use Rattle.std.proofs.Common.{rules, ◌∙◌, refl, FitsSigned}
 use Rattle.std.specs.Int.{w128}
 use Rattle.std.proofs.lemmas.Int.{to_z-of_z}
-use Rattle.wrap_rows.specs.Layout.{times}
 use Rattle.wrap_rows.proofs.ShiftRightLaws.{signed_row_small}
 use Rattle.wrap_rows.proofs.shift_right.ShiftRight.add_signed_row.Goals as goal
 

@@ -2,7 +2,8 @@ use Rattle.std.proofs.Common.{◌≡◌, ◌∷◌, [], pos, neg_ℤ, ◌^◌, �
 use Rattle.std.proofs.lemmas.Int.{ints}
 use Rattle.wrap_rows.specs.Layout.{times}
 use Rattle.wrap_rows.specs.Sum.{coefficient, sign_coefficient}
-use Rattle.wrap_rows.proofs.SumPieceLaws.{lays_signed, coefficient_small, sign_coefficient_small, power_small}
+use Rattle.wrap_rows.proofs.SumPieceLaws.{lays_signed, coefficient_small, sign_coefficient_small}
+use Rattle.wrap_rows.proofs.SmallLaws.{power_small}
 use Rattle.wrap_rows.proofs.sum.Sum.add_signed.Goals as goal
 
 pub add_sum-requires-clause-small : goal.add_sum-requires-clause-small
@@ -12,7 +13,7 @@ add_sum-requires-clause-small c =
     let two : c.times-2.result.coeff ≡ coefficient sum.kind = search rules in
     let three : c.times-3.result.coeff ≡ neg_ℤ (pos (2 ^ sum.width)) = search rules in
     let four : c.times-4.result.coeff ≡ sign_coefficient sum.kind sum.width = search rules in
-    omega (arith, ints, ap unsigned_abs one, ap unsigned_abs two, ap unsigned_abs three, ap unsigned_abs four, coefficient_small sum.kind, sign_coefficient_small sum.kind sum.width c.requires.at.width, power_small sum.width c.requires.at.width)
+    omega (arith, ints, ap unsigned_abs one, ap unsigned_abs two, ap unsigned_abs three, ap unsigned_abs four, coefficient_small sum.kind, sign_coefficient_small sum.kind sum.width c.requires.at.width, power_small sum.width c.requires.at.width.greatest)
 
 pub returns : goal.returns
 returns c =

@@ -1,12 +1,11 @@
-use Rattle.std.proofs.Common.{◌≡◌, ◌∷◌, [], ◌+◌, ◌-◌, ◌^◌, ◌<◌, pos, neg_ℤ, ◌-ℤ◌, List, length, rules, refl, ap, ap₂, ◌∙◌, sym, subst, arith, length-append}
-use Rattle.std.specs.Prelude.{All, true, false, map}
-use Rattle.mix_system.specs.declared.literal.Term.TheVariants.{Var, Row}
+use Rattle.std.proofs.Common.{◌≡◌, ◌+◌, pos, length, rules, refl, ap, ◌∙◌, sym, subst, arith, length-append}
+use Rattle.std.specs.Prelude.{All, false, map}
+use Rattle.mix_system.specs.declared.literal.Term.TheVariants.{Var}
 use Rattle.mix_system.specs.Lit.{negation}
 use Rattle.mix_system.specs.System.{System, Exists, IsInner}
-use Rattle.wrap_rows.specs.Normal.{row_of, clause_of}
-use Rattle.wrap_rows.specs.Layout.{times, at_most, at_least}
-use Rattle.wrap_rows.specs.Blocks.{equals, sign_row, sign_clauses}
-use Rattle.wrap_rows.specs.Trunc.{carry_row, signed_row}
+use Rattle.wrap_rows.specs.Normal.{clause_of}
+use Rattle.wrap_rows.specs.Layout.{at_least}
+use Rattle.wrap_rows.specs.Blocks.{equals}
 use Rattle.wrap_rows.proofs.ReadLaws.{not_both}
 use Rattle.wrap_rows.proofs.RangedLaws.{on_ok}
 use Rattle.wrap_rows.proofs.TruncLaws.{literals_plain, literals_known, literals_inner, literals_opposite, plain_count, lays_plain}

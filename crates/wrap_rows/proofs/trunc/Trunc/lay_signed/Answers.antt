@@ -1,13 +1,12 @@
-use Rattle.std.proofs.Common.{◌≡◌, ◌∷◌, [], ◌+◌, ◌-◌, ◌^◌, ◌<◌, pos, neg_ℤ, ◌-ℤ◌, List, length, rules, refl, ap, ap₂, ◌∙◌, sym, subst, arith, length-append}
-use Rattle.std.specs.Prelude.{All, true, false, map}
+use Rattle.std.proofs.Common.{◌≡◌, ◌∷◌, [], ◌+◌, ◌-◌, ◌^◌, pos, neg_ℤ, ◌-ℤ◌, length, rules, ap, ap₂, ◌∙◌, sym, subst, arith, length-append}
+use Rattle.std.specs.Prelude.{All, true, map}
 use Rattle.mix_system.specs.declared.literal.Term.TheVariants.{Var, Row}
 use Rattle.mix_system.specs.Lit.{negation}
 use Rattle.mix_system.specs.System.{System, Exists, IsInner}
 use Rattle.wrap_rows.specs.Normal.{row_of, clause_of}
 use Rattle.wrap_rows.specs.Layout.{times, at_most, at_least}
 use Rattle.wrap_rows.specs.Blocks.{equals, sign_row, sign_clauses}
-use Rattle.wrap_rows.specs.Trunc.{carry_row, signed_row}
-use Rattle.wrap_rows.proofs.ReadLaws.{not_both}
+use Rattle.wrap_rows.specs.Trunc.{carry_row}
 use Rattle.wrap_rows.proofs.RangedLaws.{on_ok}
 use Rattle.wrap_rows.proofs.TruncLaws.{literals_signed, literals_known, literals_inner, literals_opposite, signed_count, lays_signed}
 use Rattle.wrap_rows.proofs.trunc.Trunc.lay_signed.Goals as goal
