@@ -24,10 +24,9 @@ use Rattle.wrap_rows.proofs.CaseLaws.{Each, Some_of}
 use Rattle.wrap_rows.proofs.BlockLaws.{each-said, all-true, Each-append, Each-left, Each-right, equals-said, equals-true}
 use Rattle.wrap_rows.proofs.LinearLaws.{once, less_once}
 use Rattle.wrap_rows.proofs.PutLaws.{put-before, put-first, put-second}
-use Rattle.wrap_rows.proofs.ReadLaws.{not_both, mark_of-IsMark}
+use Rattle.wrap_rows.proofs.ReadLaws.{not_both, mark_of-IsMark, reads_two}
 use Rattle.wrap_rows.proofs.MarkedLaws.{two_said, two_filled}
 use Rattle.wrap_rows.proofs.WrapLaws.{number_of}
-use Rattle.wrap_rows.proofs.WrappedLaws.{reads_two}
 use Rattle.bit_rows.specs.declared.bits.BitVars.{BitVars}
 use Rattle.bit_rows.specs.declared.bits.BitVars.TheVariants.{Helpers, Literal}
 use Rattle.bit_rows.specs.declared.bitwise.BitKind.{BitKind}

@@ -18,14 +18,13 @@ use Rattle.wrap_rows.specs.Vars.{IsMark, IsNumber, value_at}
 use Rattle.wrap_rows.specs.Piece.{put_from, AreIn, names_own_rows, mark_of}
 use Rattle.wrap_rows.proofs.CaseLaws.{Some_of, without_first}
 use Rattle.wrap_rows.proofs.BlockLaws.{each-said, all-true, Each-append, Each-left, Each-right}
-use Rattle.wrap_rows.proofs.SignLaws.{sign-law}
+use Rattle.wrap_rows.proofs.SignLaws.{sign-law, sign_of-IsMark}
 use Rattle.wrap_rows.proofs.LinearLaws.{once, less_once}
 use Rattle.wrap_rows.proofs.PutLaws.{put-before, put-first, put-second}
 use Rattle.wrap_rows.proofs.PlaceLaws.{put-third}
 use Rattle.wrap_rows.proofs.ReadLaws.{same_tests, eq_yes, eq_said, le_yes, le_no, mark_of-IsMark, flag_lists, reads_one}
 use Rattle.wrap_rows.proofs.MarkedLaws.{one_said, one_filled}
 use Rattle.wrap_rows.proofs.WrapLaws.{number_of}
-use Rattle.wrap_rows.proofs.CompareLaws.{sign_is_mark}
 use Rattle.div_rows.specs.declared.abs.Abs.{Abs}
 use Rattle.div_rows.specs.Unless.{equals_unless}
 use Rattle.div_rows.specs.Abs.{IsAt, vars, ranges, rows_of, size_clauses, listed, layout_of, layout, size, is_barred, numbers, CanTake, meaning}
@@ -222,7 +221,7 @@ complete abs first point is_at takes within =
     let is_a : IsNumber width here = subst (IsNumber width) (sym kept_a) takes.number in
     let is_ma : IsMark (number_at new abs.a.mark) = subst IsMark (sym kept_ma) takes.mark in
     let is_m : IsMark (number_at new (first + 1)) = subst IsMark (sym m) (mark_of-IsMark test) in
-    let is_s : IsMark (number_at new (first + 1 + 1)) = subst IsMark (sym s) (sign_is_mark width here) in
+    let is_s : IsMark (number_at new (first + 1 + 1)) = subst IsMark (sym s) (sign_of-IsMark width here) in
     let is_x : IsNumber width (number_at new first) = subst (IsNumber width) (sym x) (size_in width here is_at.width is_a) in
     let sizes = size_true width here is_at.width is_a (number_at new first) (number_at new (first + 1 + 1)) (term_value rows new (Row 1)) (term_value rows new (Row 2)) s (difference_law abs first new) (total_law abs first new) x in
     let barred = is_barred abs here in

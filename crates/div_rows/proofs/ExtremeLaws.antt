@@ -18,14 +18,13 @@ use Rattle.wrap_rows.specs.Piece.{put_from, AreIn, names_own_rows, mark_of}
 use Rattle.wrap_rows.specs.Compare.{left_sign, right_sign, sign_clauses_of}
 use Rattle.wrap_rows.proofs.CaseLaws.{Each, Some_of, without_first}
 use Rattle.wrap_rows.proofs.BlockLaws.{each-said, all-true, Each-append, Each-left, Each-right, compared-law}
-use Rattle.wrap_rows.proofs.SignLaws.{sign-law}
+use Rattle.wrap_rows.proofs.SignLaws.{sign-law, sign_of-IsMark}
 use Rattle.wrap_rows.proofs.LinearLaws.{once, less_once}
 use Rattle.wrap_rows.proofs.PutLaws.{put-before, put-first, put-second}
 use Rattle.wrap_rows.proofs.PlaceLaws.{put-third}
-use Rattle.wrap_rows.proofs.ReadLaws.{not_both, le_yes, le_no, le_said, lt_yes, lt_no, mark_of-IsMark, mark_of-one}
+use Rattle.wrap_rows.proofs.ReadLaws.{not_both, le_yes, le_no, le_said, lt_yes, lt_no, mark_of-IsMark, mark_of-one, reads_two}
 use Rattle.wrap_rows.proofs.MarkedLaws.{two_said, two_filled}
 use Rattle.wrap_rows.proofs.WrapLaws.{number_of}
-use Rattle.wrap_rows.proofs.CompareLaws.{reads_two, sign_is_mark}
 use Rattle.div_rows.specs.declared.extreme.ExtremeKind.{ExtremeKind}
 use Rattle.div_rows.specs.declared.extreme.ExtremeKind.TheVariants.{Least, Greatest}
 use Rattle.div_rows.specs.declared.extreme.Extreme.{Extreme}
@@ -321,7 +320,7 @@ complete extreme first point is_at takes within =
     helpers_put needed (first + 1 + 1) s_number t_number y_number before (rw (length-set, length-set) (room_for_helpers needed width first (length point) s_number t_number y_number within)) in
     let y : number_at new (test_at needed first) ≡ mark_of (is_ordered needed width new_a new_b) = put.test_is ∙ ap mark_of same_order in
     let are : AreSigns extreme first new needed = λ passed. ((put.signs_are passed).0 ∙ ap (sign_of width) (sym kept_a), (put.signs_are passed).1 ∙ ap (sign_of width) (sym kept_b)) in
-    let are_marks : AreMarks extreme first new needed = λ passed. (subst IsMark (sym (put.signs_are passed).0) (sign_is_mark width a), subst IsMark (sym (put.signs_are passed).1) (sign_is_mark width b)) in
+    let are_marks : AreMarks extreme first new needed = λ passed. (subst IsMark (sym (put.signs_are passed).0) (sign_of-IsMark width a), subst IsMark (sym (put.signs_are passed).1) (sign_of-IsMark width b)) in
     let is_a : IsNumber width new_a = subst (IsNumber width) (sym kept_a) takes.a.number in
     let is_b : IsNumber width new_b = subst (IsNumber width) (sym kept_b) takes.b.number in
     let is_ma : IsMark (number_at new extreme.a.mark) = subst IsMark (sym kept_ma) takes.a.mark in

@@ -21,14 +21,13 @@ use Rattle.wrap_rows.specs.Vars.{IsMark, IsNumber, IsValue, value_at}
 use Rattle.wrap_rows.specs.Piece.{put_from, AreIn, names_own_rows, mark_of}
 use Rattle.wrap_rows.proofs.CaseLaws.{by_test, Some_of, without_first, only}
 use Rattle.wrap_rows.proofs.BlockLaws.{mark_cases, each-said, all-true, Each-append, Each-left, Each-right, equals-said, equals-true}
-use Rattle.wrap_rows.proofs.SignLaws.{sign-law}
+use Rattle.wrap_rows.proofs.SignLaws.{sign-law, sign_of-IsMark}
 use Rattle.wrap_rows.proofs.LinearLaws.{once, times_one, less_once}
 use Rattle.wrap_rows.proofs.PutLaws.{put-before, put-first, put-second}
 use Rattle.wrap_rows.proofs.PlaceLaws.{put-third, put-fourth, put-fifth}
-use Rattle.wrap_rows.proofs.ReadLaws.{not_both, eq_yes, eq_said, lt_yes, lt_no, mark_of-IsMark}
+use Rattle.wrap_rows.proofs.ReadLaws.{not_both, eq_yes, eq_said, lt_yes, lt_no, mark_of-IsMark, reads_two}
 use Rattle.wrap_rows.proofs.MarkedLaws.{two_said, two_filled}
 use Rattle.wrap_rows.proofs.WrapLaws.{number_of, modulo_same, modulo_below}
-use Rattle.wrap_rows.proofs.CompareLaws.{reads_two, sign_is_mark}
 use Rattle.div_rows.specs.declared.division.DivisionKind.{DivisionKind}
 use Rattle.div_rows.specs.declared.division.DivisionKind.TheVariants.{Quotient, Remainder}
 use Rattle.div_rows.specs.declared.signed_division.SignedDivision.{SignedDivision}
@@ -274,7 +273,7 @@ complete division first point is_at takes within =
     let is_ma : IsMark (number_at new division.a.mark) = subst IsMark (sym kept_ma) takes.a.mark in
     let is_mc : IsMark (number_at new division.divisor_mark) = subst IsMark (sym kept_mc) takes.divisor_mark in
     let is_m : IsMark (number_at new (first + 1)) = subst IsMark (sym m) (mark_of-IsMark (is_poison division point)) in
-    let is_s : IsMark (number_at new (sign_at first)) = subst IsMark (sym s) (sign_is_mark width here) in
+    let is_s : IsMark (number_at new (sign_at first)) = subst IsMark (sym s) (sign_of-IsMark width here) in
     let is_t : IsMark (number_at new (lift_at first)) = subst IsMark (sym t) (mark_of-IsMark (int_lt v_number (pos 0))) in
     let q_within : IsWithin (2 ^ (width - 1)) q_number = quotient_in width n c is_at.width small is_at.some is_at.divisor in
     let r_within : IsWithin (2 ^ (width - 1)) r_number = remainder_in width n c is_at.width is_at.some is_at.divisor in

@@ -23,10 +23,9 @@ use Rattle.wrap_rows.proofs.BlockLaws.{each-said, all-true, Each-append, Each-le
 use Rattle.wrap_rows.proofs.LinearLaws.{once, less_once}
 use Rattle.wrap_rows.proofs.PutLaws.{put-before, put-first, put-second}
 use Rattle.wrap_rows.proofs.PlaceLaws.{put-third}
-use Rattle.wrap_rows.proofs.ReadLaws.{not_both, mark_of-IsMark, flag_lists}
+use Rattle.wrap_rows.proofs.ReadLaws.{not_both, mark_of-IsMark, flag_lists, reads_two}
 use Rattle.wrap_rows.proofs.MarkedLaws.{two_said, two_filled}
 use Rattle.wrap_rows.proofs.WrapLaws.{number_of}
-use Rattle.wrap_rows.proofs.CompareLaws.{reads_two}
 use Rattle.div_rows.specs.declared.division.DivisionKind.{DivisionKind}
 use Rattle.div_rows.specs.declared.division.DivisionKind.TheVariants.{Quotient, Remainder}
 use Rattle.div_rows.specs.declared.unsigned_division.UnsignedDivision.{UnsignedDivision}

@@ -75,6 +75,8 @@ impl Piece for SignedDivision {
         value_at(self.vars(first), point)
     }
 
+    fn stays_calm(&self, _: u32) {}
+
     fn vars(&self, first: u32) -> ValueVars {
         ValueVars {
             number: first,

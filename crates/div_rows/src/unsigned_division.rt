@@ -73,6 +73,8 @@ impl Piece for UnsignedDivision {
         value_at(self.vars(first), point)
     }
 
+    fn stays_calm(&self, _: u32) {}
+
     fn vars(&self, first: u32) -> ValueVars {
         ValueVars {
             number: first,
