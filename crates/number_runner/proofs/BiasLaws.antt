@@ -30,14 +30,14 @@ reading : (width n : ℕ) → 0 < width → n < 2 ^ width → signed width n ≡
 reading width n some low =
     by_test (λ test. cond test (pos n) (pos n -ℤ pos (2 ^ width)) ≡ pos (raise true width n) -ℤ pos (half_of width)) (nat_lt n (half_of width))
     (λ below.
-      let under : n < half_of width = ltb-true n (half_of width) below in
-      let up : raise true width n ≡ n + half_of width = mod-eq_of_lt (omega (arith, all, under)) in
-      omega (arith, ints, up))
+    let under : n < half_of width = ltb-true n (half_of width) below in
+    let up : raise true width n ≡ n + half_of width = mod-eq_of_lt (omega (arith, all, under)) in
+    omega (arith, ints, up))
     (λ above.
-      let over : half_of width ≤ n = grind (arith, nat_tests, above) in
-      let sum : n + half_of width ≡ (n - half_of width) + 2 ^ width = omega (arith, all, over) in
-      let down : raise true width n ≡ n - half_of width = ap (λ (m : ℕ). m % 2 ^ width) sum ∙ add-mod_right (n - half_of width) (2 ^ width) ∙ mod-eq_of_lt (omega (arith, low, over)) in
-      omega (arith, ints, down, over, all))
+    let over : half_of width ≤ n = grind (arith, nat_tests, above) in
+    let sum : n + half_of width ≡ (n - half_of width) + 2 ^ width = omega (arith, all, over) in
+    let down : raise true width n ≡ n - half_of width = ap (λ (m : ℕ). m % 2 ^ width) sum ∙ add-mod_right (n - half_of width) (2 ^ width) ∙ mod-eq_of_lt (omega (arith, low, over)) in
+    omega (arith, ints, down, over, all))
   where
     all : 2 ^ width ≡ half_of width * 2
     all = doubled width some

@@ -75,7 +75,8 @@ fn raised(fork: &Fork, numbers: &[u32]) -> u32
     requires { fork.now.left < length numbers.now }
     ensures { result ≡ raised_at fork.now numbers.now }
 {
-    fork.mask.low(u64::from(left_of(fork, numbers)) + u64::from(fork.bias))
+    fork.mask
+        .low(u64::from(left_of(fork, numbers)) + u64::from(fork.bias))
 }
 
 // Takes the branch, which a comparison's own value goes before. The two ways stay apart, so that the processor can

@@ -45,24 +45,24 @@ pub loop-step-preserved : goal.loop-step-preserved
 loop-step-preserved c =
     elim c.match-step.branch [
       | in-Add w ↦
-        let sum = w.in-Add.sum in
-        let can = can_compute c.args.steps.now c.loop-step.step-index c.step-item.result c.loop-step.numbers c.loop-step-test.true c.step-item.is _ sum.to (ap step_of w.in-Add.is) c.loop-step.invariant.can in
-        let left = number_at c.loop-step.numbers sum.left w.from.result (low_of c.loop-step.numbers sum.left can.0.left.there) w.from.ensures in
-        let right = number_at c.loop-step.numbers sum.right w.from-in-Add.result (low_of c.loop-step.numbers sum.right can.0.right.there) w.from-in-Add.ensures in
-        let is = sum_is (map Num c.loop-step.numbers) sum.mask.width sum.left sum.right w.from.result w.from-in-Add.result left right in
-        given_kept c.args.steps.now c.loop-step.step-index c.step-item.result c.loop-step.numbers c.loop-step-test.true c.step-item.is _ sum.to (ap step_of w.in-Add.is) c.loop-step.invariant.can w.low.result (is ∙ ap Num (sym w.low.ensures)) c.args.numbers.now c.match-step.numbers c.loop-step.invariant.after c.loop-step.invariant.count w.numbers-is
+          let sum = w.in-Add.sum in
+          let can = can_compute c.args.steps.now c.loop-step.step-index c.step-item.result c.loop-step.numbers c.loop-step-test.true c.step-item.is _ sum.to (ap step_of w.in-Add.is) c.loop-step.invariant.can in
+          let left = number_at c.loop-step.numbers sum.left w.from.result (low_of c.loop-step.numbers sum.left can.0.left.there) w.from.ensures in
+          let right = number_at c.loop-step.numbers sum.right w.from-in-Add.result (low_of c.loop-step.numbers sum.right can.0.right.there) w.from-in-Add.ensures in
+          let is = sum_is (map Num c.loop-step.numbers) sum.mask.width sum.left sum.right w.from.result w.from-in-Add.result left right in
+          given_kept c.args.steps.now c.loop-step.step-index c.step-item.result c.loop-step.numbers c.loop-step-test.true c.step-item.is _ sum.to (ap step_of w.in-Add.is) c.loop-step.invariant.can w.low.result (is ∙ ap Num (sym w.low.ensures)) c.args.numbers.now c.match-step.numbers c.loop-step.invariant.after c.loop-step.invariant.count w.numbers-is
       | in-AddConst w ↦
-        let sum = w.in-AddConst.sum in
-        let can = can_compute c.args.steps.now c.loop-step.step-index c.step-item.result c.loop-step.numbers c.loop-step-test.true c.step-item.is _ sum.to (ap step_of w.in-AddConst.is) c.loop-step.invariant.can in
-        let left = number_at c.loop-step.numbers sum.left w.from-in-AddConst.result (low_of c.loop-step.numbers sum.left can.0.left.there) w.from-in-AddConst.ensures in
-        let is = sum_const_is (map Num c.loop-step.numbers) sum.mask.width sum.left sum.number w.from-in-AddConst.result left in
-        let low = w.low-in-AddConst.ensures ∙ ap (λ (n : ℕ). (w.from-in-AddConst.result + n) % 2 ^ sum.mask.width) w.from-in-AddConst-2.ensures in
-        given_kept c.args.steps.now c.loop-step.step-index c.step-item.result c.loop-step.numbers c.loop-step-test.true c.step-item.is _ sum.to (ap step_of w.in-AddConst.is) c.loop-step.invariant.can w.low-in-AddConst.result (is ∙ ap Num (sym low)) c.args.numbers.now c.match-step.numbers c.loop-step.invariant.after c.loop-step.invariant.count w.numbers-is
+          let sum = w.in-AddConst.sum in
+          let can = can_compute c.args.steps.now c.loop-step.step-index c.step-item.result c.loop-step.numbers c.loop-step-test.true c.step-item.is _ sum.to (ap step_of w.in-AddConst.is) c.loop-step.invariant.can in
+          let left = number_at c.loop-step.numbers sum.left w.from-in-AddConst.result (low_of c.loop-step.numbers sum.left can.0.left.there) w.from-in-AddConst.ensures in
+          let is = sum_const_is (map Num c.loop-step.numbers) sum.mask.width sum.left sum.number w.from-in-AddConst.result left in
+          let low = w.low-in-AddConst.ensures ∙ ap (λ (n : ℕ). (w.from-in-AddConst.result + n) % 2 ^ sum.mask.width) w.from-in-AddConst-2.ensures in
+          given_kept c.args.steps.now c.loop-step.step-index c.step-item.result c.loop-step.numbers c.loop-step-test.true c.step-item.is _ sum.to (ap step_of w.in-AddConst.is) c.loop-step.invariant.can w.low-in-AddConst.result (is ∙ ap Num (sym low)) c.args.numbers.now c.match-step.numbers c.loop-step.invariant.after c.loop-step.invariant.count w.numbers-is
       | in-Give+in-Num w ↦
-        given_kept c.args.steps.now c.loop-step.step-index c.step-item.result c.loop-step.numbers c.loop-step-test.true c.step-item.is w.in-Give.op w.in-Give.to (ap step_of w.in-Give.is) c.loop-step.invariant.can w.in-Num.number (sym w.op_result.ensures ∙ w.in-Num.is) c.args.numbers.now c.match-step.numbers c.loop-step.invariant.after c.loop-step.invariant.count w.numbers-is
+          given_kept c.args.steps.now c.loop-step.step-index c.step-item.result c.loop-step.numbers c.loop-step-test.true c.step-item.is w.in-Give.op w.in-Give.to (ap step_of w.in-Give.is) c.loop-step.invariant.can w.in-Num.number (sym w.op_result.ensures ∙ w.in-Num.is) c.args.numbers.now c.match-step.numbers c.loop-step.invariant.after c.loop-step.invariant.count w.numbers-is
       | in-Assume+else-not-is_one w ↦
-        let passed : holds (map Num c.loop-step.numbers) w.in-Assume.cond ≡ true = ap (λ (val : Val). is_one (Some val)) (sym w.read.ensures) ∙ sym w.is_one.ensures ∙ w.if-not-is_one.false in
-        assume_kept c.args.steps.now c.loop-step.step-index c.step-item.result c.loop-step.numbers c.loop-step-test.true c.step-item.is w.in-Assume.cond (ap step_of w.in-Assume.is) c.args.numbers.now c.match-step.numbers c.loop-step.invariant passed w.numbers-is
+          let passed : holds (map Num c.loop-step.numbers) w.in-Assume.cond ≡ true = ap (λ (val : Val). is_one (Some val)) (sym w.read.ensures) ∙ sym w.is_one.ensures ∙ w.if-not-is_one.false in
+          assume_kept c.args.steps.now c.loop-step.step-index c.step-item.result c.loop-step.numbers c.loop-step-test.true c.step-item.is w.in-Assume.cond (ap step_of w.in-Assume.is) c.args.numbers.now c.match-step.numbers c.loop-step.invariant passed w.numbers-is
     ]
 
 pub returns-clause-ran : goal.returns-clause-ran

@@ -48,19 +48,19 @@ pub take-requires-in-Below : goal.take-requires-in-Below
 take-requires-in-Below c =
     can_take c.args.numbers.now c.args.exit.now (cond c.in-Below.fork.signed Slt Ult) c.in-Below.fork (ap tail_of c.in-Below.is) (λ code is. subst (IsExit code) c.in-Below.is is) c.requires (nat_lt c.raised.result c.in-Below.fork.bound)
     (λ some low small.
-      let biased = c.in-Below.fork.raised in
-      let left = ap (λ (b : ℕ). (get_or c.args.numbers.now c.in-Below.fork.left 0 + b) % 2 ^ c.in-Below.fork.mask.width) (sym biased) ∙ sym c.raised.ensures in
-      let right = ap (λ (b : ℕ). (c.in-Below.fork.number + b) % 2 ^ c.in-Below.fork.mask.width) (sym biased) ∙ sym c.in-Below.fork.bounds in
-      below_is c.in-Below.fork.mask.width (get_or c.args.numbers.now c.in-Below.fork.left 0) c.in-Below.fork.number some low small c.in-Below.fork.signed ∙ (λ i. nat_lt (left i) (right i)))
+    let biased = c.in-Below.fork.raised in
+    let left = ap (λ (b : ℕ). (get_or c.args.numbers.now c.in-Below.fork.left 0 + b) % 2 ^ c.in-Below.fork.mask.width) (sym biased) ∙ sym c.raised.ensures in
+    let right = ap (λ (b : ℕ). (c.in-Below.fork.number + b) % 2 ^ c.in-Below.fork.mask.width) (sym biased) ∙ sym c.in-Below.fork.bounds in
+    below_is c.in-Below.fork.mask.width (get_or c.args.numbers.now c.in-Below.fork.left 0) c.in-Below.fork.number some low small c.in-Below.fork.signed ∙ (λ i. nat_lt (left i) (right i)))
 
 pub returns-in-Below-clause-way : goal.returns-in-Below-clause-way
 returns-in-Below-clause-way c =
     taken c.args.numbers.now c.args.exit.now (cond c.in-Below.fork.signed Slt Ult) c.in-Below.fork (ap tail_of c.in-Below.is) (λ code is. subst (IsExit code) c.in-Below.is is) c.requires (nat_lt c.raised.result c.in-Below.fork.bound)
     (λ some low small.
-      let biased = c.in-Below.fork.raised in
-      let left = ap (λ (b : ℕ). (get_or c.args.numbers.now c.in-Below.fork.left 0 + b) % 2 ^ c.in-Below.fork.mask.width) (sym biased) ∙ sym c.raised.ensures in
-      let right = ap (λ (b : ℕ). (c.in-Below.fork.number + b) % 2 ^ c.in-Below.fork.mask.width) (sym biased) ∙ sym c.in-Below.fork.bounds in
-      below_is c.in-Below.fork.mask.width (get_or c.args.numbers.now c.in-Below.fork.left 0) c.in-Below.fork.number some low small c.in-Below.fork.signed ∙ (λ i. nat_lt (left i) (right i)))
+    let biased = c.in-Below.fork.raised in
+    let left = ap (λ (b : ℕ). (get_or c.args.numbers.now c.in-Below.fork.left 0 + b) % 2 ^ c.in-Below.fork.mask.width) (sym biased) ∙ sym c.raised.ensures in
+    let right = ap (λ (b : ℕ). (c.in-Below.fork.number + b) % 2 ^ c.in-Below.fork.mask.width) (sym biased) ∙ sym c.in-Below.fork.bounds in
+    below_is c.in-Below.fork.mask.width (get_or c.args.numbers.now c.in-Below.fork.left 0) c.in-Below.fork.number some low small c.in-Below.fork.signed ∙ (λ i. nat_lt (left i) (right i)))
     (ap jumps_of c.in-Below.is) c.take-in-Below.new.numbers c.take-in-Below.result c.take-in-Below.ensures.way
 
 pub raised-requires-in-AtMost : goal.raised-requires-in-AtMost
@@ -70,19 +70,19 @@ pub take-requires-in-AtMost : goal.take-requires-in-AtMost
 take-requires-in-AtMost c =
     can_take c.args.numbers.now c.args.exit.now (cond c.in-AtMost.fork.signed Sle Ule) c.in-AtMost.fork (ap tail_of c.in-AtMost.is) (λ code is. subst (IsExit code) c.in-AtMost.is is) c.requires (nat_le c.raised-in-AtMost.result c.in-AtMost.fork.bound)
     (λ some low small.
-      let biased = c.in-AtMost.fork.raised in
-      let left = ap (λ (b : ℕ). (get_or c.args.numbers.now c.in-AtMost.fork.left 0 + b) % 2 ^ c.in-AtMost.fork.mask.width) (sym biased) ∙ sym c.raised-in-AtMost.ensures in
-      let right = ap (λ (b : ℕ). (c.in-AtMost.fork.number + b) % 2 ^ c.in-AtMost.fork.mask.width) (sym biased) ∙ sym c.in-AtMost.fork.bounds in
-      at_most_holds c.in-AtMost.fork.mask.width (get_or c.args.numbers.now c.in-AtMost.fork.left 0) c.in-AtMost.fork.number some low small c.in-AtMost.fork.signed ∙ (λ i. nat_le (left i) (right i)))
+    let biased = c.in-AtMost.fork.raised in
+    let left = ap (λ (b : ℕ). (get_or c.args.numbers.now c.in-AtMost.fork.left 0 + b) % 2 ^ c.in-AtMost.fork.mask.width) (sym biased) ∙ sym c.raised-in-AtMost.ensures in
+    let right = ap (λ (b : ℕ). (c.in-AtMost.fork.number + b) % 2 ^ c.in-AtMost.fork.mask.width) (sym biased) ∙ sym c.in-AtMost.fork.bounds in
+    at_most_holds c.in-AtMost.fork.mask.width (get_or c.args.numbers.now c.in-AtMost.fork.left 0) c.in-AtMost.fork.number some low small c.in-AtMost.fork.signed ∙ (λ i. nat_le (left i) (right i)))
 
 pub returns-in-AtMost-clause-way : goal.returns-in-AtMost-clause-way
 returns-in-AtMost-clause-way c =
     taken c.args.numbers.now c.args.exit.now (cond c.in-AtMost.fork.signed Sle Ule) c.in-AtMost.fork (ap tail_of c.in-AtMost.is) (λ code is. subst (IsExit code) c.in-AtMost.is is) c.requires (nat_le c.raised-in-AtMost.result c.in-AtMost.fork.bound)
     (λ some low small.
-      let biased = c.in-AtMost.fork.raised in
-      let left = ap (λ (b : ℕ). (get_or c.args.numbers.now c.in-AtMost.fork.left 0 + b) % 2 ^ c.in-AtMost.fork.mask.width) (sym biased) ∙ sym c.raised-in-AtMost.ensures in
-      let right = ap (λ (b : ℕ). (c.in-AtMost.fork.number + b) % 2 ^ c.in-AtMost.fork.mask.width) (sym biased) ∙ sym c.in-AtMost.fork.bounds in
-      at_most_holds c.in-AtMost.fork.mask.width (get_or c.args.numbers.now c.in-AtMost.fork.left 0) c.in-AtMost.fork.number some low small c.in-AtMost.fork.signed ∙ (λ i. nat_le (left i) (right i)))
+    let biased = c.in-AtMost.fork.raised in
+    let left = ap (λ (b : ℕ). (get_or c.args.numbers.now c.in-AtMost.fork.left 0 + b) % 2 ^ c.in-AtMost.fork.mask.width) (sym biased) ∙ sym c.raised-in-AtMost.ensures in
+    let right = ap (λ (b : ℕ). (c.in-AtMost.fork.number + b) % 2 ^ c.in-AtMost.fork.mask.width) (sym biased) ∙ sym c.in-AtMost.fork.bounds in
+    at_most_holds c.in-AtMost.fork.mask.width (get_or c.args.numbers.now c.in-AtMost.fork.left 0) c.in-AtMost.fork.number some low small c.in-AtMost.fork.signed ∙ (λ i. nat_le (left i) (right i)))
     (ap jumps_of c.in-AtMost.is) c.take-in-AtMost.new.numbers c.take-in-AtMost.result c.take-in-AtMost.ensures.way
 
 pub raised-requires-in-Above : goal.raised-requires-in-Above
@@ -92,19 +92,19 @@ pub take-requires-in-Above : goal.take-requires-in-Above
 take-requires-in-Above c =
     can_take c.args.numbers.now c.args.exit.now (cond c.in-Above.fork.signed Sgt Ugt) c.in-Above.fork (ap tail_of c.in-Above.is) (λ code is. subst (IsExit code) c.in-Above.is is) c.requires (nat_lt c.in-Above.fork.bound c.raised-in-Above.result)
     (λ some low small.
-      let biased = c.in-Above.fork.raised in
-      let left = ap (λ (b : ℕ). (get_or c.args.numbers.now c.in-Above.fork.left 0 + b) % 2 ^ c.in-Above.fork.mask.width) (sym biased) ∙ sym c.raised-in-Above.ensures in
-      let right = ap (λ (b : ℕ). (c.in-Above.fork.number + b) % 2 ^ c.in-Above.fork.mask.width) (sym biased) ∙ sym c.in-Above.fork.bounds in
-      above_is c.in-Above.fork.mask.width (get_or c.args.numbers.now c.in-Above.fork.left 0) c.in-Above.fork.number some low small c.in-Above.fork.signed ∙ (λ i. nat_lt (right i) (left i)))
+    let biased = c.in-Above.fork.raised in
+    let left = ap (λ (b : ℕ). (get_or c.args.numbers.now c.in-Above.fork.left 0 + b) % 2 ^ c.in-Above.fork.mask.width) (sym biased) ∙ sym c.raised-in-Above.ensures in
+    let right = ap (λ (b : ℕ). (c.in-Above.fork.number + b) % 2 ^ c.in-Above.fork.mask.width) (sym biased) ∙ sym c.in-Above.fork.bounds in
+    above_is c.in-Above.fork.mask.width (get_or c.args.numbers.now c.in-Above.fork.left 0) c.in-Above.fork.number some low small c.in-Above.fork.signed ∙ (λ i. nat_lt (right i) (left i)))
 
 pub returns-in-Above-clause-way : goal.returns-in-Above-clause-way
 returns-in-Above-clause-way c =
     taken c.args.numbers.now c.args.exit.now (cond c.in-Above.fork.signed Sgt Ugt) c.in-Above.fork (ap tail_of c.in-Above.is) (λ code is. subst (IsExit code) c.in-Above.is is) c.requires (nat_lt c.in-Above.fork.bound c.raised-in-Above.result)
     (λ some low small.
-      let biased = c.in-Above.fork.raised in
-      let left = ap (λ (b : ℕ). (get_or c.args.numbers.now c.in-Above.fork.left 0 + b) % 2 ^ c.in-Above.fork.mask.width) (sym biased) ∙ sym c.raised-in-Above.ensures in
-      let right = ap (λ (b : ℕ). (c.in-Above.fork.number + b) % 2 ^ c.in-Above.fork.mask.width) (sym biased) ∙ sym c.in-Above.fork.bounds in
-      above_is c.in-Above.fork.mask.width (get_or c.args.numbers.now c.in-Above.fork.left 0) c.in-Above.fork.number some low small c.in-Above.fork.signed ∙ (λ i. nat_lt (right i) (left i)))
+    let biased = c.in-Above.fork.raised in
+    let left = ap (λ (b : ℕ). (get_or c.args.numbers.now c.in-Above.fork.left 0 + b) % 2 ^ c.in-Above.fork.mask.width) (sym biased) ∙ sym c.raised-in-Above.ensures in
+    let right = ap (λ (b : ℕ). (c.in-Above.fork.number + b) % 2 ^ c.in-Above.fork.mask.width) (sym biased) ∙ sym c.in-Above.fork.bounds in
+    above_is c.in-Above.fork.mask.width (get_or c.args.numbers.now c.in-Above.fork.left 0) c.in-Above.fork.number some low small c.in-Above.fork.signed ∙ (λ i. nat_lt (right i) (left i)))
     (ap jumps_of c.in-Above.is) c.take-in-Above.new.numbers c.take-in-Above.result c.take-in-Above.ensures.way
 
 pub raised-requires-in-AtLeast : goal.raised-requires-in-AtLeast
@@ -114,19 +114,19 @@ pub take-requires-in-AtLeast : goal.take-requires-in-AtLeast
 take-requires-in-AtLeast c =
     can_take c.args.numbers.now c.args.exit.now (cond c.in-AtLeast.fork.signed Sge Uge) c.in-AtLeast.fork (ap tail_of c.in-AtLeast.is) (λ code is. subst (IsExit code) c.in-AtLeast.is is) c.requires (nat_le c.in-AtLeast.fork.bound c.raised-in-AtLeast.result)
     (λ some low small.
-      let biased = c.in-AtLeast.fork.raised in
-      let left = ap (λ (b : ℕ). (get_or c.args.numbers.now c.in-AtLeast.fork.left 0 + b) % 2 ^ c.in-AtLeast.fork.mask.width) (sym biased) ∙ sym c.raised-in-AtLeast.ensures in
-      let right = ap (λ (b : ℕ). (c.in-AtLeast.fork.number + b) % 2 ^ c.in-AtLeast.fork.mask.width) (sym biased) ∙ sym c.in-AtLeast.fork.bounds in
-      at_least_is c.in-AtLeast.fork.mask.width (get_or c.args.numbers.now c.in-AtLeast.fork.left 0) c.in-AtLeast.fork.number some low small c.in-AtLeast.fork.signed ∙ (λ i. nat_le (right i) (left i)))
+    let biased = c.in-AtLeast.fork.raised in
+    let left = ap (λ (b : ℕ). (get_or c.args.numbers.now c.in-AtLeast.fork.left 0 + b) % 2 ^ c.in-AtLeast.fork.mask.width) (sym biased) ∙ sym c.raised-in-AtLeast.ensures in
+    let right = ap (λ (b : ℕ). (c.in-AtLeast.fork.number + b) % 2 ^ c.in-AtLeast.fork.mask.width) (sym biased) ∙ sym c.in-AtLeast.fork.bounds in
+    at_least_is c.in-AtLeast.fork.mask.width (get_or c.args.numbers.now c.in-AtLeast.fork.left 0) c.in-AtLeast.fork.number some low small c.in-AtLeast.fork.signed ∙ (λ i. nat_le (right i) (left i)))
 
 pub returns-in-AtLeast-clause-way : goal.returns-in-AtLeast-clause-way
 returns-in-AtLeast-clause-way c =
     taken c.args.numbers.now c.args.exit.now (cond c.in-AtLeast.fork.signed Sge Uge) c.in-AtLeast.fork (ap tail_of c.in-AtLeast.is) (λ code is. subst (IsExit code) c.in-AtLeast.is is) c.requires (nat_le c.in-AtLeast.fork.bound c.raised-in-AtLeast.result)
     (λ some low small.
-      let biased = c.in-AtLeast.fork.raised in
-      let left = ap (λ (b : ℕ). (get_or c.args.numbers.now c.in-AtLeast.fork.left 0 + b) % 2 ^ c.in-AtLeast.fork.mask.width) (sym biased) ∙ sym c.raised-in-AtLeast.ensures in
-      let right = ap (λ (b : ℕ). (c.in-AtLeast.fork.number + b) % 2 ^ c.in-AtLeast.fork.mask.width) (sym biased) ∙ sym c.in-AtLeast.fork.bounds in
-      at_least_is c.in-AtLeast.fork.mask.width (get_or c.args.numbers.now c.in-AtLeast.fork.left 0) c.in-AtLeast.fork.number some low small c.in-AtLeast.fork.signed ∙ (λ i. nat_le (right i) (left i)))
+    let biased = c.in-AtLeast.fork.raised in
+    let left = ap (λ (b : ℕ). (get_or c.args.numbers.now c.in-AtLeast.fork.left 0 + b) % 2 ^ c.in-AtLeast.fork.mask.width) (sym biased) ∙ sym c.raised-in-AtLeast.ensures in
+    let right = ap (λ (b : ℕ). (c.in-AtLeast.fork.number + b) % 2 ^ c.in-AtLeast.fork.mask.width) (sym biased) ∙ sym c.in-AtLeast.fork.bounds in
+    at_least_is c.in-AtLeast.fork.mask.width (get_or c.args.numbers.now c.in-AtLeast.fork.left 0) c.in-AtLeast.fork.number some low small c.in-AtLeast.fork.signed ∙ (λ i. nat_le (right i) (left i)))
     (ap jumps_of c.in-AtLeast.is) c.take-in-AtLeast.new.numbers c.take-in-AtLeast.result c.take-in-AtLeast.ensures.way
 
 -- ---- other ends
@@ -205,5 +205,5 @@ returns-in-Void-clause-way c =
 pub returns-in-Num-clause-way : goal.returns-in-Num-clause-way
 returns-in-Num-clause-way c =
     ends_so c.args.numbers.now c.args.exit.now (ap tail_of c.in-Return.is) (λ code is.
-      let it = subst (IsExit code) c.in-Return.is is in
-      (ret.Num it.0 c.in-Num.field-0, ap (exit_leads (map Num c.args.numbers.now)) it.2 ∙ returned (map Num c.args.numbers.now) c.in-Return.value c.in-Num.field-0 it.0 it.1 (sym c.read.ensures ∙ c.in-Num.is)))
+    let it = subst (IsExit code) c.in-Return.is is in
+    (ret.Num it.0 c.in-Num.field-0, ap (exit_leads (map Num c.args.numbers.now)) it.2 ∙ returned (map Num c.args.numbers.now) c.in-Return.value c.in-Num.field-0 it.0 it.1 (sym c.read.ensures ∙ c.in-Num.is)))
