@@ -10,8 +10,8 @@ whole_ratio num den denominator number one same =
     let unit : number *ℤ pos 1 ≡ number = omega (arith, ints) in
     sym unit ∙ ap (λ z. number *ℤ z) (sym one) ∙ sym same ∙ mul_comm num denominator
 
-pub returns-else-ratio-ne1 : goal.returns-else-ratio-ne1
-returns-else-ratio-ne1 c =
+pub returns : goal.returns
+returns c =
     let s = c.args.simplex.now in
     let ratio = c.in-Ok.ratio in
     let fits : FitsSigned w128 ratio.num = search rules in
