@@ -14,8 +14,8 @@ use Rattle.mix_system.proofs.BoundLaws.{IsIn-cons_cases, IsIn-first, IsIn-there}
 use Rattle.box_check.specs.declared.bounds.Bounds.{Bounds}
 use Rattle.box_check.specs.declared.hints.Open.{Open}
 use Rattle.box_check.specs.declared.hints.Open.TheVariants.{Nothing, One, More}
-use Rattle.box_check.specs.Bounds.{Says, HasSlot, Stands, Extends, Tightens}
-use Rattle.box_check.proofs.BoundsLaws.{Extends-length, Extends_refl, Extends_more}
+use Rattle.box_check.specs.Bounds.{SaysEverywhere, SaysHere, Says, HasSlot, Stands, StandsEverywhere, Extends, IsSame, Tightens, TightensEverywhere, StaysHere}
+use Rattle.box_check.proofs.BoundsLaws.{Extends-length, Extends_refl, Extends_more, same_extends}
 use Rattle.box_check.specs.Hints.{IsFalse, HasOneOpen, HasTwoOpen, IsFound, IsLeft}
 
 All_left : {X : Type 0} (P : X → Type 0) (xs ys : List X) → All P (xs ++ ys) → All P xs
@@ -201,6 +201,45 @@ Stands-put old new lit box stands tightens extends other has =
       λ says. ⊎_elim (λ entails. IsIn-first lit box other entails) (λ said. IsIn-there lit box other ((stands other before).0 said)) ((tightens other before).0 says),
       λ within. (tightens other before).1 (⊎_elim (λ entails. inl entails) (λ there. inr ((stands other before).1 there)) (IsIn-cons_cases lit box other within)),
     )
+
+pub StandsEverywhere-put : (old new : Bounds) (lit : Lit) (box : List Lit) → StandsEverywhere old box → TightensEverywhere lit old new → Extends old new
+    → StandsEverywhere new (lit ∷ box)
+StandsEverywhere-put old new lit box stands tightens extends other has =
+    let before = HasSlot-before old new extends other.term has in (
+      λ says. ⊎_elim (λ entails. IsIn-first lit box other entails) (λ said. IsIn-there lit box other ((stands other before).0 said)) ((tightens other before).0 says),
+      λ within. (tightens other before).1 (⊎_elim (λ entails. inl entails) (λ there. inr ((stands other before).1 there)) (IsIn-cons_cases lit box other within)),
+    )
+
+-- bounds that are the same stand for the same boxes
+
+everywhere_later : (old now : Bounds) (lit : Lit) → IsSame old now → SaysEverywhere old lit ↔ SaysEverywhere now lit
+everywhere_later old now lit same = (λ says. rw (same.ends, same.vars) says, λ says. rw (same.ends, same.vars) at says)
+
+here_later : (old now : Bounds) (lit : Lit) → IsSame old now → SaysHere old lit ↔ SaysHere now lit
+here_later old now lit same = (λ says. rw (same.ends, same.vars, same.level) says, λ says. rw (same.ends, same.vars, same.level) at says)
+
+pub StandsEverywhere-later : (old now : Bounds) (box : List Lit) → IsSame old now → StandsEverywhere old box → StandsEverywhere now box
+StandsEverywhere-later old now box same stands lit has =
+    let says = everywhere_later old now lit same in
+    let both = stands lit (HasSlot-before old now (same_extends old now same) lit.term has) in
+    (λ s. both.0 (says.1 s), λ within. says.0 (both.1 within))
+
+pub Stands-later : (old now : Bounds) (box : List Lit) → IsSame old now → Stands old box → Stands now box
+Stands-later old now box same stands lit has =
+    let everywhere = everywhere_later old now lit same in
+    let here = here_later old now lit same in
+    let both = stands lit (HasSlot-before old now (same_extends old now same) lit.term has) in (
+      λ says. both.0 (⊎_elim (λ h. inl (everywhere.1 h)) (λ h. inr (here.1 h)) says),
+      λ within. ⊎_elim (λ h. inl (everywhere.0 h)) (λ h. inr (here.0 h)) (both.1 within),
+    )
+
+-- the bounds of all levels stand for the same boxes where a literal was put on the level in work
+pub StandsEverywhere-stays : (old new : Bounds) (box : List Lit) → StaysHere old new → Extends old new → StandsEverywhere old box → StandsEverywhere new box
+StandsEverywhere-stays old new box stays extends stands lit has =
+    let before = HasSlot-before old new extends lit.term has in
+    let same = stays.everywhere lit before in
+    let both = stands lit before in
+    (λ says. both.0 (same.0 says), λ within. same.1 (both.1 within))
 
 -- what is left of a clause, whatever the box is for which the bounds stand
 

@@ -20,7 +20,8 @@ pub trait Clauses {
     /// The literals of the clause with that number, `None` exactly where there is none.
     fn clause(&self, number: u32) -> Option<&[Lit]>
         requires { ordered self.now }
-        ensures { MatchOption result (known self.now number ≡ None) (λ clause. known self.now number ≡ Some clause.now) };
+        ensures { MatchOption result (known self.now number ≡ None)
+            (λ clause. known self.now number ≡ Some clause.now) };
 }
 
 /// What bounds leave of a clause.
@@ -56,7 +57,8 @@ impl Bounds {
     }
 }
 
-/// Whether the clauses of the hints propagate: each but the last leaves one literal, which is put in force, and the last leaves none.
+/// Whether the clauses of the hints propagate: each but the last leaves one literal, which is put
+/// in force, and the last leaves none.
 ///
 /// What was put in force stays so: [`Bounds::back_to`] takes it back.
 pub fn propagates<C: Clauses>(
@@ -65,8 +67,10 @@ pub fn propagates<C: Clauses>(
     hints: &[u32],
 ) -> Result<bool, NoMemory>
     requires ordered { C.ordered clauses.now }
-    requires slots { (number : ℕ) (clause : List Literal) → C.known clauses.now number ≡ Some clause → All (λ lit. HasSlot bounds.old lit.term) clause }
-    ensures exact { IfOk result (λ yes. (box : List Literal) → Stands bounds.old box → (IsTrue yes ↔ Propagates (C.known clauses.now) box hints.now)) }
+    requires slots { (number : ℕ) (clause : List Literal) →
+        C.known clauses.now number ≡ Some clause → All (λ lit. HasSlot bounds.old lit.term) clause }
+    ensures exact { IfOk result (λ yes. (box : List Literal) → Stands bounds.old box →
+        (IsTrue yes ↔ Propagates (C.known clauses.now) box hints.now)) }
     ensures extends { Extends bounds.old bounds.new }
 {
     let Some((last, before)) = hints.split_last() else {

@@ -39,7 +39,7 @@ module _ (func : Func) (rules : Rules func) (block : Block) (there : Contains fu
     pub within : target func label < length func.blocks
     pub is : label_of func (target func label) ≡ label
 
-  target_is : (label : List ℕ) → Contains (targets_of block.end) label → IsTarget label
+  pub target_is : (label : List ℕ) → Contains (targets_of block.end) label → IsTarget label
   target_is label among =
       let to = target_there func rules block there label among in
       by_place (place_of label (labels_of func)) refl (subst (λ (l : List ℕ). Contains (labels_of func) l) to.2 (in_map block_label func.blocks to.0 to.1))

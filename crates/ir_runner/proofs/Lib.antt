@@ -1,11 +1,11 @@
-mod BodyLaws
-mod CostLaws
-mod ExitLaws
-mod LoopLaws
-mod LowerLaws
-mod OpLaws
-mod PhiLaws
-mod RunLaws
-mod SlotLaws
-mod StartLaws
-mod TurnLaws
+pub mod BodyLaws
+pub mod CostLaws
+pub mod ExitLaws
+pub mod LoopLaws
+pub mod LowerLaws
+pub mod OpLaws
+pub mod PhiLaws
+pub mod RunLaws
+pub mod SlotLaws
+pub mod StartLaws
+pub mod TurnLaws

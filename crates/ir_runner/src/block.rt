@@ -86,9 +86,9 @@ pub(crate) fn run_steps(steps: &[Step], slots: &mut [Val]) -> bool
     true
 }
 
-// Whether the value is the number 1.
+/// Whether a value is the number 1.
 #[inline]
-fn is_one(val: Val) -> bool
+pub fn is_one(val: Val) -> bool
     ensures { result ≡ is_one (Some val) }
 {
     match val {

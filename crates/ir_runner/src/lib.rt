@@ -8,6 +8,9 @@ mod lower;
 mod range;
 mod runner;
 
+pub use block::is_one;
 pub use code::{BlockCode, CaseCode, Exit, Jump, Pair, PhiMove, Step, StepOp};
 pub use costs::PathCosts;
-pub use runner::Runner;
+pub use lower::code_of;
+pub use range::is_in_range;
+pub use runner::{Runner, count_values};

@@ -28,9 +28,9 @@ pub(crate) fn ranged(range: Option<Range>, number: u32) -> Val
     }
 }
 
-// Whether a number lies in the range, where there is one.
+/// Whether a number lies in the range, where there is one.
 #[inline]
-pub(crate) fn is_in_range(range: Option<Range>, number: u32) -> bool
+pub fn is_in_range(range: Option<Range>, number: u32) -> bool
     ensures { result ≡ is_in_range range number }
 {
     match range {

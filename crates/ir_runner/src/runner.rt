@@ -97,8 +97,8 @@ impl<'a> Runner<'a> {
     }
 }
 
-// How many parameters, phis and instructions there are.
-fn count_values(func: &Func) -> usize
+/// How many parameters, phis and instructions there are.
+pub fn count_values(func: &Func) -> usize
     requires { count_values func.now ≤ 2 ^ 32 }
     ensures { result ≡ count_values func.now }
 {

@@ -6,22 +6,20 @@ use Rattle.std.specs.List.{filter, flat_map}
 use Rattle.std.proofs.lemmas.Bool.{cases_Bool, cond-true, cond-false}
 use Rattle.std.proofs.lemmas.Bool.Decides.{nat_tests}
 use Rattle.std.proofs.lemmas.Option.{get_or_from_slice_get, slice_get_within}
-use Rattle.std.proofs.lemmas.List.{append-nil, reverse-append, take_more, drop_more, map-append}
-use Rattle.std.proofs.lemmas.List.Elements.{filter_map-append, filter-append}
+use Rattle.std.proofs.lemmas.List.{reverse-append, take_more, drop_more, map-append}
+use Rattle.std.proofs.lemmas.List.Elements.{filter_map-append}
 use Rattle.mix_system.specs.declared.literal.Term.{Term}
 use Rattle.mix_system.specs.declared.literal.Lit.{Lit}
 use Rattle.mix_system.specs.System.{System}
 use Rattle.mix_system.specs.Bounds.{IsIn, range_bounds, range_bounds_from, only_literal, unit_bounds}
-use Rattle.mix_system.proofs.BoundLaws.{IsIn-none, IsIn-append_left, IsIn-append_right, IsIn-append_cases}
+use Rattle.mix_system.proofs.BoundLaws.{IsIn-append_left, IsIn-append_right, IsIn-append_cases}
 use Rattle.proof_term.specs.declared.proof.Goal.{Goal}
 use Rattle.proof_term.specs.Levels.{Finished, Levels, cuts_of, available, clause_of, known, goal_bounds, box_of}
 use Rattle.open_levels.specs.declared.level.EndedStep.{EndedStep}
 use Rattle.open_levels.specs.declared.level.OpenLevel.{OpenLevel}
-use Rattle.box_check.specs.declared.bounds.Bounds.{Bounds}
-use Rattle.box_check.specs.Bounds.{Says, Stands}
-use Rattle.open_levels.specs.Adds.{Adds, both_bounds}
+use Rattle.open_levels.specs.Adds.{both_bounds}
 use Rattle.open_levels.specs.Kept.{finished_of, level_of, levels_of}
-use Rattle.open_levels.proofs.AddsLaws.{SaySame, Stands-same, adds_as, reversed_in}
+use Rattle.open_levels.proofs.AddsLaws.{SaySame}
 
 -- the steps up to a place, the newest first
 abbrev pub newest_of : List EndedStep → List Finished
@@ -73,15 +71,6 @@ units-append clauses more = filter_map-append only_literal clauses more
 pub units_of-append : (fs gs : List Finished) → units_of (fs ++ gs) ≡ units_of fs ++ units_of gs
 units_of-append fs gs = ap unit_bounds (map-append (λ (f : Finished). f.clause) fs gs) ∙ units-append (map (λ f. f.clause) fs) (map (λ f. f.clause) gs)
 
-pub cut_units-append : (fs gs : List Finished) → units_of (cuts_in (fs ++ gs)) ≡ units_of (cuts_in fs) ++ units_of (cuts_in gs)
-cut_units-append fs gs = ap units_of (filter-append (λ (f : Finished). f.is_cut) fs gs) ∙ units_of-append (cuts_in fs) (cuts_in gs)
-
-pub units_either_way : (fs : List Finished) → SaySame (units_of fs) (units_of (reverse fs))
-units_either_way fs lit = let same = reversed_in units_of units_of-append fs lit in (same.1, same.0)
-
-pub cuts_either_way : (fs : List Finished) → SaySame (units_of (cuts_in fs)) (units_of (cuts_in (reverse fs)))
-cuts_either_way fs lit = let same = reversed_in (λ (xs : List Finished). units_of (cuts_in xs)) cut_units-append fs lit in (same.1, same.0)
-
 pub left_range : (ranges : List (ℤ × ℤ)) (i : ℕ) → i < length ranges
     → range_bounds_from i (drop i ranges) ≡ both_bounds i (get_or ranges i (pos 0, pos 0)) ++ range_bounds_from (i + 1) (drop (i + 1) ranges)
 left_range ranges i within = ap (range_bounds_from i) (drop_more ranges i (pos 0, pos 0) within)
@@ -96,85 +85,23 @@ left_clause clauses i clause is =
     let front = front_is clauses i clause (slice_get_within clauses i clause is) (sym (get_or_from_slice_get clauses i clause clause is)) in
     ap unit_bounds front ∙ units-append (clause ∷ []) (drop (i + 1) clauses)
 
-pub left_step : (steps : List EndedStep) (i : ℕ) (step : EndedStep) (clause : List Lit) → i < length steps → step ≡ get_or steps i step → clause ≡ step.clause
-    → units_of (map finished_of (drop i steps)) ≡ unit_bounds (clause ∷ []) ++ units_of (map finished_of (drop (i + 1) steps))
-left_step steps i step clause within is same =
-    ap (λ (xs : List EndedStep). units_of (map finished_of xs)) (front_is steps i step within is)
-    ∙ units_of-append (finished_of step ∷ []) (map finished_of (drop (i + 1) steps))
-    ∙ ap (λ (c : List Lit). unit_bounds (c ∷ []) ++ units_of (map finished_of (drop (i + 1) steps))) (sym same)
-
-pub left_cut : (steps : List EndedStep) (i : ℕ) (step : EndedStep) (clause : List Lit) → i < length steps → step ≡ get_or steps i step → clause ≡ step.clause → step.is_cut ≡ true
-    → units_of (cuts_in (map finished_of (drop i steps))) ≡ unit_bounds (clause ∷ []) ++ units_of (cuts_in (map finished_of (drop (i + 1) steps)))
-left_cut steps i step clause within is same cut =
-    ap (λ (xs : List EndedStep). units_of (cuts_in (map finished_of xs))) (front_is steps i step within is)
-    ∙ ap units_of (cut_here (finished_of step) (map finished_of (drop (i + 1) steps)) cut)
-    ∙ units_of-append (finished_of step ∷ []) (cuts_in (map finished_of (drop (i + 1) steps)))
-    ∙ ap (λ (c : List Lit). unit_bounds (c ∷ []) ++ units_of (cuts_in (map finished_of (drop (i + 1) steps)))) (sym same)
-
-pub left_other : (steps : List EndedStep) (i : ℕ) (step : EndedStep) → i < length steps → step ≡ get_or steps i step → step.is_cut ≡ false
-    → units_of (cuts_in (map finished_of (drop i steps))) ≡ units_of (cuts_in (map finished_of (drop (i + 1) steps)))
-left_other steps i step within is other =
-    ap (λ (xs : List EndedStep). units_of (cuts_in (map finished_of xs))) (front_is steps i step within is)
-    ∙ ap units_of (cut_later (finished_of step) (map finished_of (drop (i + 1) steps)) other)
-
 pub left_level_cuts : (levels : List OpenLevel) (i : ℕ) (level : OpenLevel) → i < length levels → level ≡ get_or levels i level
     → flat_map cuts_of (map level_of (drop i levels)) ≡ cuts_of (level_of level) ++ flat_map cuts_of (map level_of (drop (i + 1) levels))
 left_level_cuts levels i level within is = ap (λ (xs : List OpenLevel). flat_map cuts_of (map level_of xs)) (front_is levels i level within is)
-
-pub left_level : (levels : List OpenLevel) (i : ℕ) (level : OpenLevel) → i < length levels → level ≡ get_or levels i level
-    → units_of (flat_map cuts_of (map level_of (drop i levels))) ≡ units_of (cuts_of (level_of level)) ++ units_of (flat_map cuts_of (map level_of (drop (i + 1) levels)))
-left_level levels i level within is =
-    ap units_of (left_level_cuts levels i level within is) ∙ units_of-append (cuts_of (level_of level)) (flat_map cuts_of (map level_of (drop (i + 1) levels)))
 
 pub none_single : (clause : List Lit) → (length clause ≡ 1 → ⊥) → unit_bounds (clause ∷ []) ≡ []
 none_single [] not_one = refl
 none_single (lit ∷ []) not_one = absurd (not_one refl)
 none_single (lit ∷ other ∷ lits) not_one = refl
 
--- the box of some levels, from what was put in force in order
+-- the box of some levels, piece by piece
 module _ (system : System) (cost : Term) (last : OpenLevel) (enclosing : List OpenLevel) where
-  box_split : box_of system cost (levels_of last enclosing)
+  pub box_split : box_of system cost (levels_of last enclosing)
       ≡ (range_bounds system.ranges ++ goal_bounds cost last.goal) ++ (unit_bounds system.clauses ++ (units_of (level_of last).finished ++ units_of (flat_map cuts_of (map level_of enclosing))))
   box_split =
       ap (λ (lits : List Lit). (range_bounds system.ranges ++ goal_bounds cost last.goal) ++ lits)
       (units-append system.clauses (map (λ f. f.clause) (available (levels_of last enclosing)))
       ∙ ap (λ (lits : List Lit). unit_bounds system.clauses ++ lits) (units_of-append (level_of last).finished (flat_map cuts_of (map level_of enclosing))))
-
-  pub box_is_put : SaySame (units_of (flat_map cuts_of (map level_of enclosing)) ++ (units_of (level_of last).finished ++ (unit_bounds system.clauses ++ (goal_bounds cost last.goal ++ (range_bounds system.ranges ++ [])))))
-      (box_of system cost (levels_of last enclosing))
-  box_is_put lit =
-      let outer = units_of (flat_map cuts_of (map level_of enclosing)) in
-      let own = units_of (level_of last).finished in
-      let base = unit_bounds system.clauses in
-      let goal = goal_bounds cost last.goal in
-      let ranges = range_bounds system.ranges in (
-        λ within. subst (λ (lits : List Lit). IsIn lits lit) (sym box_split) (
-            ⊎_elim (λ h. IsIn-append_right (ranges ++ goal) (base ++ (own ++ outer)) lit (IsIn-append_right base (own ++ outer) lit (IsIn-append_right own outer lit h)))
-            (λ h1. ⊎_elim (λ h. IsIn-append_right (ranges ++ goal) (base ++ (own ++ outer)) lit (IsIn-append_right base (own ++ outer) lit (IsIn-append_left own outer lit h)))
-            (λ h2. ⊎_elim (λ h. IsIn-append_right (ranges ++ goal) (base ++ (own ++ outer)) lit (IsIn-append_left base (own ++ outer) lit h))
-            (λ h3. ⊎_elim (λ h. IsIn-append_left (ranges ++ goal) (base ++ (own ++ outer)) lit (IsIn-append_right ranges goal lit h))
-            (λ h4. IsIn-append_left (ranges ++ goal) (base ++ (own ++ outer)) lit (IsIn-append_left ranges goal lit (subst (λ (lits : List Lit). IsIn lits lit) (append-nil ranges) h4)))
-            (IsIn-append_cases goal (ranges ++ []) lit h3))
-            (IsIn-append_cases base (goal ++ (ranges ++ [])) lit h2))
-            (IsIn-append_cases own (base ++ (goal ++ (ranges ++ []))) lit h1))
-            (IsIn-append_cases outer (own ++ (base ++ (goal ++ (ranges ++ [])))) lit within)),
-        λ within.
-            let put_ranges : IsIn ranges lit → IsIn (outer ++ (own ++ (base ++ (goal ++ (ranges ++ []))))) lit = λ h.
-            IsIn-append_right outer (own ++ (base ++ (goal ++ (ranges ++ [])))) lit (IsIn-append_right own (base ++ (goal ++ (ranges ++ []))) lit (IsIn-append_right base (goal ++ (ranges ++ [])) lit (
-            IsIn-append_right goal (ranges ++ []) lit (IsIn-append_left ranges [] lit h)))) in
-            let put_goal : IsIn goal lit → IsIn (outer ++ (own ++ (base ++ (goal ++ (ranges ++ []))))) lit = λ h.
-            IsIn-append_right outer (own ++ (base ++ (goal ++ (ranges ++ [])))) lit (IsIn-append_right own (base ++ (goal ++ (ranges ++ []))) lit (IsIn-append_right base (goal ++ (ranges ++ [])) lit (
-            IsIn-append_left goal (ranges ++ []) lit h))) in
-            let put_base : IsIn base lit → IsIn (outer ++ (own ++ (base ++ (goal ++ (ranges ++ []))))) lit = λ h.
-            IsIn-append_right outer (own ++ (base ++ (goal ++ (ranges ++ [])))) lit (IsIn-append_right own (base ++ (goal ++ (ranges ++ []))) lit (IsIn-append_left base (goal ++ (ranges ++ [])) lit h)) in
-            let put_own : IsIn own lit → IsIn (outer ++ (own ++ (base ++ (goal ++ (ranges ++ []))))) lit = λ h.
-            IsIn-append_right outer (own ++ (base ++ (goal ++ (ranges ++ [])))) lit (IsIn-append_left own (base ++ (goal ++ (ranges ++ []))) lit h) in
-            let put_outer : IsIn outer lit → IsIn (outer ++ (own ++ (base ++ (goal ++ (ranges ++ []))))) lit = λ h.
-            IsIn-append_left outer (own ++ (base ++ (goal ++ (ranges ++ [])))) lit h in
-            ⊎_elim (λ front. ⊎_elim put_ranges put_goal (IsIn-append_cases ranges goal lit front))
-            (λ back. ⊎_elim put_base (λ steps. ⊎_elim put_own put_outer (IsIn-append_cases own outer lit steps)) (IsIn-append_cases base (own ++ outer) lit back))
-            (IsIn-append_cases (ranges ++ goal) (base ++ (own ++ outer)) lit (subst (λ (lits : List Lit). IsIn lits lit) box_split within)),
-      )
 
 pub newest_push : (steps : List EndedStep) (step : EndedStep) → newest_of (steps ++ step ∷ []) ≡ finished_of step ∷ newest_of steps
 newest_push steps step =
@@ -227,17 +154,6 @@ module _ (system : System) (cost : Term) (last after : OpenLevel) (enclosing : L
             (IsIn-append_cases (new ++ own) outer lit steps)) (IsIn-append_cases base ((new ++ own) ++ outer) lit back))
             (IsIn-append_cases front (base ++ ((new ++ own) ++ outer)) lit (from_after within)),
       )
-
--- the bounds that were put stand for the box of the level
-pub box_stands : (system : System) (cost : Term) (last : OpenLevel) (enclosing : List OpenLevel) (empty with_ranges with_goal with_clauses with_steps with_cuts : Bounds)
-    → ((lit : Lit) → Says empty lit → ⊥) → Adds (range_bounds system.ranges) empty with_ranges → Adds (goal_bounds cost last.goal) with_ranges with_goal
-    → Adds (unit_bounds system.clauses) with_goal with_clauses → Adds (units_of (map finished_of last.ended.items)) with_clauses with_steps
-    → Adds (units_of (flat_map cuts_of (map level_of enclosing))) with_steps with_cuts → Stands with_cuts (box_of system cost (levels_of last enclosing))
-box_stands system cost last enclosing empty with_ranges with_goal with_clauses with_steps with_cuts none ranges goal clauses steps cuts =
-    let nothing : Stands empty [] = λ lit has. (λ says. absurd (none lit says), λ within. absurd (IsIn-none lit within)) in
-    let own = adds_as (units_of (map finished_of last.ended.items)) (units_of (level_of last).finished) with_clauses with_steps (units_either_way (map finished_of last.ended.items)) steps in
-    let put = cuts.stands _ (own.stands _ (clauses.stands _ (goal.stands _ (ranges.stands [] nothing)))) in
-    Stands-same with_cuts _ (box_of system cost (levels_of last enclosing)) (box_is_put system cost last enclosing) put
 
 pub known_later : (system : System) (levels : Levels) (number : ℕ) → length system.clauses ≤ number → known system levels number ≡ clause_of number (available levels)
 known_later system levels number past =

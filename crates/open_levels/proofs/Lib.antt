@@ -1,4 +1,5 @@
 pub mod AddsLaws
+pub mod BoxLaws
 mod KeptLaws
 mod LevelLaws
 mod NumberLaws

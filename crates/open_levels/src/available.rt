@@ -7,8 +7,8 @@ use crate::OpenLevel;
 use box_check::Clauses;
 use mix_system::{Lit, System};
 
-/// The clauses that a step on the last of some levels may name: the system's, those of the level's own steps, and the cuts of the
-/// levels around it, the innermost first.
+/// The clauses that a step on the last of some levels may name: the system's, those of the level's
+/// own steps, and the cuts of the levels around it, the innermost first.
 #[derive(Clone, Copy)]
 pub struct Available<'a> {
     pub system: &'a System,
@@ -21,9 +21,11 @@ impl<'a> Clauses for Available<'a> {
     ghost use Rattle.std.specs.Prelude.{All};
     ghost use Rattle.open_levels.specs.Kept.{levels_of, AreRising};
 
-    ghost known = { λ it number. known_to it.system.now (levels_of it.last.now it.enclosing.now) number };
+    ghost known = { λ it number. known_to it.system.now
+        (levels_of it.last.now it.enclosing.now) number };
 
-    ghost ordered = { λ it. AreRising it.last.now.ended.items × All (λ level. AreRising level.ended.items) it.enclosing.now };
+    ghost ordered = { λ it. AreRising it.last.now.ended.items ×
+        All (λ level. AreRising level.ended.items) it.enclosing.now };
 
     fn clause(&self, number: u32) -> Option<&[Lit]> {
         if number < self.system.clauses() {
@@ -39,7 +41,10 @@ impl<'a> Clauses for Available<'a> {
 // The clause of the cut with that number on some levels.
 fn cut_of(enclosing: &[OpenLevel], number: u64) -> Option<&[Lit]>
     requires { All (λ level. AreRising level.ended.items) enclosing.now }
-    ensures { MatchOption result (clause_of number (flat_map cuts_of (map level_of enclosing.now)) ≡ None) (λ clause. clause_of number (flat_map cuts_of (map level_of enclosing.now)) ≡ Some clause.now) }
+    ensures { MatchOption result (clause_of number
+        (flat_map cuts_of (map level_of enclosing.now)) ≡ None)
+        (λ clause. clause_of number (flat_map cuts_of
+        (map level_of enclosing.now)) ≡ Some clause.now) }
 {
     for level in enclosing {
         if let Some(clause) = level.cut(number) {

@@ -58,9 +58,13 @@ pub fn assume(
 ) -> Result<Option<Excess>, NoMemory>
     requires over { IsOver (length system.now.ranges) (length system.now.rows) bounds.old }
     requires named { All (NamesTerm system.now) clause.now }
-    ensures adds { IfOk result (λ excess. MatchOption excess (Adds (map negation clause.now) bounds.old bounds.new) (λ _. Unit {0})) }
-    ensures steps { IfOk result (λ excess. MatchOption excess (All StaysWithin (map negation_step clause.now)) (IsFirstExcess (map negation_step clause.now))) }
-    ensures over { OnOk result (IsOver (length system.now.ranges) (length system.now.rows) bounds.new) }
+    ensures adds { IfOk result (λ excess. MatchOption excess
+        (Adds (map negation clause.now) bounds.old bounds.new) (λ _. Unit {0})) }
+    ensures steps { IfOk result (λ excess. MatchOption excess
+        (All StaysWithin (map negation_step clause.now))
+        (IsFirstExcess (map negation_step clause.now))) }
+    ensures over { OnOk result (IsOver (length system.now.ranges)
+        (length system.now.rows) bounds.new) }
 {
     for lit in clause {
         match negated(*lit) {
@@ -81,12 +85,14 @@ pub fn follow_hints(
     hints: &[u32],
 ) -> Result<Shown, NoMemory>
     requires formed { IsWellFormed available.now.system.now }
-    requires over { IsOver (length available.now.system.now.ranges) (length available.now.system.now.rows) bounds.old }
+    requires over { IsOver (length available.now.system.now.ranges)
+        (length available.now.system.now.rows) bounds.old }
     requires last { IsLevel available.now.system.now available.now.last.now }
     requires enclosing { All (IsLevel available.now.system.now) available.now.enclosing.now }
     requires named { All (NamesTerm available.now.system.now) clause.now }
     ensures exact { IfOk result (λ shown. (box : List Literal) → Stands bounds.old box →
-        IsShown clause.now hints.now box (known available.now.system.now (levels_of available.now.last.now available.now.enclosing.now)) shown) }
+        IsShown clause.now hints.now box (known available.now.system.now
+        (levels_of available.now.last.now available.now.enclosing.now)) shown) }
     ensures keeps { IfOk result (λ shown. Keeps shown bounds.old bounds.new) }
 {
     let mark = bounds.mark();

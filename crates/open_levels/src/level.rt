@@ -17,6 +17,8 @@ pub struct EndedStep {
 #[derive(Debug, Drop)]
 pub struct OpenLevel {
     pub goal: Goal,
+    /// Where the bounds of the level around it ended as it was opened.
+    pub mark: usize,
     pub ended: Vec<EndedStep>,
 }
 
@@ -24,7 +26,8 @@ impl OpenLevel {
     // Where the step with that number stands, by halving: the numbers rise.
     fn place(&self, number: u64) -> Option<usize>
         requires { AreRising self.now.ended.items }
-        ensures { MatchOption result (All (λ step. step.number ≢ number) self.now.ended.items) (IsAt self.now.ended.items number) }
+        ensures { MatchOption result (All (λ step. step.number ≢ number) self.now.ended.items)
+            (IsAt self.now.ended.items number) }
     {
         let mut low = 0;
         let mut high = self.ended.len();
@@ -46,7 +49,8 @@ impl OpenLevel {
     // The clause of the step with that number.
     pub(crate) fn clause(&self, number: u64) -> Option<&[Lit]>
         requires { AreRising self.now.ended.items }
-        ensures { MatchOption result (clause_of number (level_of self.now).finished ≡ None) (λ clause. clause_of number (level_of self.now).finished ≡ Some clause.now) }
+        ensures { MatchOption result (clause_of number (level_of self.now).finished ≡ None)
+            (λ clause. clause_of number (level_of self.now).finished ≡ Some clause.now) }
     {
         let Some(at) = self.place(number) else {
             return None;
@@ -57,7 +61,8 @@ impl OpenLevel {
     // The clause of the cut with that number.
     pub(crate) fn cut(&self, number: u64) -> Option<&[Lit]>
         requires { AreRising self.now.ended.items }
-        ensures { MatchOption result (clause_of number (cuts_of (level_of self.now)) ≡ None) (λ clause. clause_of number (cuts_of (level_of self.now)) ≡ Some clause.now) }
+        ensures { MatchOption result (clause_of number (cuts_of (level_of self.now)) ≡ None)
+            (λ clause. clause_of number (cuts_of (level_of self.now)) ≡ Some clause.now) }
     {
         let Some(at) = self.place(number) else {
             return None;

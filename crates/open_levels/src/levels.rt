@@ -6,7 +6,7 @@ ghost use Rattle.proof_term.specs.Levels.{cut_clause};
 ghost use Rattle.proof_term.specs.Valid.{at_start, has_ended, after_clause, after_enter, closed};
 ghost use Rattle.open_levels.specs.Kept.{level_of, stage_of, AreLevels, GoalFits};
 
-use crate::filling::{box_of, put_unit};
+use crate::filling::{base_of, begin, put_unit, put_unit_everywhere};
 use crate::{EndedStep, OpenLevel};
 use box_check::Bounds;
 use mix_system::{Lit, Lits, Side, System, Term};
@@ -38,16 +38,16 @@ impl OpenLevels {
         ensures stage { IfOk result (λ levels. stage_of levels ≡ at_start system.now goal) }
         ensures kept { IfOk result (AreLevels system.now cost) }
     {
-        let last = OpenLevel {
-            goal,
-            ended: Vec::new(alloc),
-        };
-        let enclosing = Vec::new(alloc);
-        let bounds = box_of(alloc, system, cost, &last, enclosing.as_slice())?;
+        let mut bounds = base_of(alloc, system)?;
+        begin(&mut bounds, system, cost, goal)?;
         Ok(OpenLevels {
             next: system.clauses() as u64,
-            last,
-            enclosing,
+            last: OpenLevel {
+                goal,
+                mark: 0,
+                ended: Vec::new(alloc),
+            },
+            enclosing: Vec::new(alloc),
             bounds,
         })
     }
@@ -61,7 +61,8 @@ impl OpenLevels {
     ) -> Result<OpenLevels, NoMemory>
         requires kept { AreLevels system.now cost self }
         requires named { All (NamesTerm system.now) clause }
-        ensures stage { IfOk result (λ levels. stage_of levels ≡ after_clause (stage_of self) clause) }
+        ensures stage { IfOk result (λ levels. stage_of levels ≡ after_clause
+            (stage_of self) clause) }
         ensures kept { IfOk result (AreLevels system.now cost) }
     {
         let OpenLevels {
@@ -100,24 +101,26 @@ impl OpenLevels {
         requires cost { Exists (length system.now.ranges) (length system.now.rows) cost }
         requires exists { Exists (length system.now.ranges) (length system.now.rows) term }
         requires fits { FitsSigned w128 (bound +ℤ pos 1) }
-        ensures stage { IfOk result (λ levels. stage_of levels ≡ after_enter (stage_of self) term bound) }
+        ensures stage { IfOk result (λ levels. stage_of levels ≡ after_enter
+            (stage_of self) term bound) }
         ensures kept { IfOk result (AreLevels system.now cost) }
     {
         let OpenLevels {
             next,
             last,
             mut enclosing,
-            ..
+            mut bounds,
         } = self;
-        enclosing.insert(0, last)?;
-        let last = OpenLevel {
+        let inner = OpenLevel {
             goal: Goal::Below { term, bound },
+            mark: bounds.mark(),
             ended: Vec::new(alloc),
         };
-        let bounds = box_of(alloc, system, cost, &last, enclosing.as_slice())?;
+        begin(&mut bounds, system, cost, inner.goal)?;
+        enclosing.insert(0, last)?;
         Ok(OpenLevels {
             next,
-            last,
+            last: inner,
             enclosing,
             bounds,
         })
@@ -134,7 +137,8 @@ impl OpenLevels {
         self.last.ended[count - 1].clause.items().is_empty()
     }
 
-    /// The levels after the last one was closed, so that its cut has ended on the level around it. `None` exactly where there is none.
+    /// The levels after the last one was closed, so that its cut has ended on the level around it.
+    /// `None` exactly where there is none.
     pub fn closed(
         self,
         alloc: Global,
@@ -143,15 +147,19 @@ impl OpenLevels {
     ) -> Result<Option<OpenLevels>, NoMemory>
         requires kept { AreLevels system.now cost self }
         requires cost { Exists (length system.now.ranges) (length system.now.rows) cost }
-        ensures first { IfOk result (λ found. MatchOption found (self.enclosing.items ≡ []) (λ _. 0 < length self.enclosing.items)) }
-        ensures stage { IfOk result (λ found. MatchOption found (Unit {0}) (λ levels. stage_of levels ≡ closed self.next (level_of self.last) (map level_of self.enclosing.items))) }
-        ensures kept { IfOk result (λ found. MatchOption found (Unit {0}) (AreLevels system.now cost)) }
+        ensures first { IfOk result (λ found. MatchOption found (self.enclosing.items ≡ [])
+            (λ _. 0 < length self.enclosing.items)) }
+        ensures stage { IfOk result (λ found. MatchOption found (Unit {0})
+            (λ levels. stage_of levels ≡ closed self.next (level_of self.last)
+            (map level_of self.enclosing.items))) }
+        ensures kept { IfOk result (λ found. MatchOption found (Unit {0})
+            (AreLevels system.now cost)) }
     {
         let OpenLevels {
             next,
             last,
             mut enclosing,
-            ..
+            mut bounds,
         } = self;
         if enclosing.is_empty() {
             return Ok(None);
@@ -161,12 +169,13 @@ impl OpenLevels {
         };
         let mut outer = enclosing.remove(0);
         let clause = cut_clause(alloc, last.goal)?;
+        bounds.close(last.mark);
+        put_unit_everywhere(&mut bounds, system, clause.items())?;
         outer.ended.push(EndedStep {
             number: next,
             clause,
             is_cut: true,
         })?;
-        let bounds = box_of(alloc, system, cost, &outer, enclosing.as_slice())?;
         Ok(Some(OpenLevels {
             next: later,
             last: outer,

@@ -1,4 +1,5 @@
-//! The open levels of a proof with the box of the last of them: what a lemma asks, and how levels open and close.
+//! The open levels of a proof with the box of the last of them: what a lemma asks, and how levels
+//! open and close.
 #![tactic(auto)]
 
 mod available;
@@ -9,7 +10,6 @@ mod levels;
 mod names;
 
 pub use available::Available;
-pub use filling::box_of;
 pub use lemma::{Shown, assume, follow_hints};
 pub use level::{EndedStep, OpenLevel};
 pub use levels::OpenLevels;

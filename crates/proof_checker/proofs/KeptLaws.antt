@@ -24,7 +24,9 @@ use Rattle.tree_check.specs.declared.boxes.OpenBoxes.{OpenBoxes}
 use Rattle.tree_check.specs.Boxes.{Stand, IsNext}
 use Rattle.tree_check.specs.declared.boxes.Refuted.{Refuted}
 use Rattle.tree_check.specs.declared.boxes.Refuted.TheVariants as refuted
-use Rattle.tree_check.proofs.BoxesLaws.{same_extends, Stands-later, stand_extends}
+use Rattle.box_check.proofs.BoundsLaws.{same_extends}
+use Rattle.open_levels.proofs.BoxLaws.{has_box_same, around_later}
+use Rattle.tree_check.proofs.BoxesLaws.{stand_extends}
 use Rattle.proof_checker.specs.declared.base.Base.{Base}
 use Rattle.proof_checker.specs.declared.kept.Theory.{Theory}
 use Rattle.proof_checker.specs.declared.kept.Found.{Found}
@@ -47,8 +49,8 @@ levels_same system cost levels bounds kept same = record {
   enclosing = kept.enclosing;
   below = kept.below;
   below_around = kept.below_around;
-  over = over_later (length system.ranges) (length system.rows) levels.bounds bounds kept.over (same_extends levels.bounds bounds same);
-  stands = Stands-later levels.bounds bounds (box_of system cost (levels_of levels.last levels.enclosing.items)) same kept.stands;
+  box = has_box_same system cost levels.last levels.enclosing.items levels.bounds bounds kept.box same;
+  around = around_later system cost levels.last.mark levels.enclosing.items levels.bounds bounds (same_extends levels.bounds bounds same) kept.around;
 }
 
 -- what hints show, of slices that are a clause, hints and levels
@@ -74,9 +76,9 @@ module _ (base : Base) where
       let box = box_of base.system.now base.cost (levels_of levels.last levels.enclosing.items) in record {
         before = levels.bounds;
         mark = mark_is;
-        levels = record { last = kept.last; enclosing = kept.enclosing; below = kept.below; below_around = kept.below_around; over = kept.over; stands = kept.stands };
+        levels = record { last = kept.last; enclosing = kept.enclosing; below = kept.below; below_around = kept.below_around; box = kept.box; around = kept.around };
         named = named;
-        stand = starts levels.bounds bounds (map negation clause ++ box) adds.extends (adds.stands box kept.stands);
+        stand = starts levels.bounds bounds (map negation clause ++ box) adds.extends (adds.stands box kept.box.stands);
       }
 
   -- a theory with other boxes
@@ -93,8 +95,8 @@ module _ (base : Base) where
       enclosing = t.levels.enclosing;
       below = t.levels.below;
       below_around = t.levels.below_around;
-      over = t.levels.over;
-      stands = t.levels.stands;
+      box = t.levels.box;
+      around = t.levels.around;
     };
     named = t.named;
     stand = stand;
@@ -102,7 +104,7 @@ module _ (base : Base) where
 
   pub theory_over : (theory : Theory) (boxes : List (List Lit)) → IsTheory base theory boxes → IsOver (length base.system.now.ranges) (length base.system.now.rows) theory.levels.bounds
   theory_over theory boxes t =
-      over_later (length base.system.now.ranges) (length base.system.now.rows) t.before theory.levels.bounds t.levels.over (stand_extends t.before theory.levels.bounds theory.boxes boxes t.stand)
+      over_later (length base.system.now.ranges) (length base.system.now.rows) t.before theory.levels.bounds t.levels.box.sound.over (stand_extends t.before theory.levels.bounds theory.boxes boxes t.stand)
 
   pub var_slot : (theory : Theory) (boxes : List (List Lit)) (var : ℕ) → IsTheory base theory boxes → var < length base.system.now.ranges → HasSlot theory.levels.bounds (Var var)
   var_slot theory boxes var t exists = has_slot (length base.system.now.ranges) (length base.system.now.rows) theory.levels.bounds (Var var) (theory_over theory boxes t) exists
@@ -141,8 +143,8 @@ module _ (base : Base) where
       enclosing = t.levels.enclosing;
       below = t.levels.below;
       below_around = t.levels.below_around;
-      over = t.levels.over;
-      stands = t.levels.stands;
+      box = t.levels.box;
+      around = t.levels.around;
     };
     named = t.named;
     extends = (next t.before box boxes t.stand).1;
@@ -151,7 +153,7 @@ module _ (base : Base) where
   pub levels_back : (theory : Theory) (bounds : Bounds) (t : IsRefuted base theory) → IsSame t.before bounds → AreLevels base.system.now base.cost (record theory.levels { bounds = bounds })
   levels_back theory bounds t same =
       let back = levels_same base.system.now base.cost (record theory.levels { bounds = t.before }) bounds t.levels same in
-      record { last = back.last; enclosing = back.enclosing; below = back.below; below_around = back.below_around; over = back.over; stands = back.stands }
+      record { last = back.last; enclosing = back.enclosing; below = back.below; below_around = back.below_around; box = back.box; around = back.around }
 
   -- a split or a leaf stands for what it gives where some box is left
   pub node_line : (theory : Theory) (l m : Line) (Gives : List Lit → List (List Lit) → Outcome → Type 0) → l ≡ m

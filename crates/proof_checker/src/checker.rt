@@ -54,7 +54,8 @@ pub fn check(alloc: Global, system: &System, cost: Term, text: &[u8]) -> Result<
 #[tactic(auto, using(crate::proofs::LineLaws::lines_first))]
 fn first_line(bytes: &[u8]) -> Option<(&[u8], &[u8])>
     ensures { MatchOption result (lines bytes.now ≡ bytes.now ∷ [])
-        (λ parts. (lines bytes.now ≡ parts.0.now ∷ lines parts.1.now) × (length parts.1.now < length bytes.now)) }
+        (λ parts. (lines bytes.now ≡ parts.0.now ∷ lines parts.1.now) ×
+        (length parts.1.now < length bytes.now)) }
 {
     let (line, behind) = bytes.split_at(line_len(bytes));
     match behind {
@@ -90,14 +91,18 @@ impl<'a> Checker<'a> {
         })
     }
 
-    /// Takes the next line, without its line feed. After a line that fails all others change nothing.
+    /// Takes the next line, without its line feed. After a line that fails all others change
+    /// nothing.
     ///
     /// Where memory is wanting the checker is of no more use.
     pub fn line(&mut self, line: &[u8]) -> Result<Fed, NoMemory>
-        requires { (system : Lists) × (cost : CostTerm) × (fed : List (List ℕ)) × HasRead system cost fed self.old }
-        ensures read { OnOk result ((system : Lists) (cost : CostTerm) (fed : List (List ℕ)) → HasRead system cost fed self.old →
+        requires { (system : Lists) × (cost : CostTerm) × (fed : List (List ℕ)) ×
+            HasRead system cost fed self.old }
+        ensures read { OnOk result ((system : Lists) (cost : CostTerm) (fed : List (List ℕ)) →
+            HasRead system cost fed self.old →
             HasRead system cost (fed ++ line.now ∷ []) self.new) }
-        ensures answer { IfOk result (λ answer. (system : Lists) (cost : CostTerm) (fed : List (List ℕ)) → HasRead system cost fed self.old →
+        ensures answer { IfOk result (λ answer. (system : Lists) (cost : CostTerm)
+            (fed : List (List ℕ)) → HasRead system cost fed self.old →
             IsFed system cost (fed ++ line.now ∷ []) answer) }
     {
         let found = mem::replace(&mut self.found, Found::At(Kept::Header));
@@ -112,11 +117,15 @@ impl<'a> Checker<'a> {
 
     // Takes the next line behind lines that came to what is kept, which was found.
     fn take(&mut self, kept: Kept, line: &[u8]) -> Result<Fed, NoMemory>
-        requires { (system : Lists) × (cost : CostTerm) × (fed : List (List ℕ)) × HasRead system cost fed (record self.old { found = Found.At kept }) }
+        requires { (system : Lists) × (cost : CostTerm) × (fed : List (List ℕ)) ×
+            HasRead system cost fed (record self.old { found = Found.At kept }) }
         ensures read { OnOk result ((system : Lists) (cost : CostTerm) (fed : List (List ℕ)) →
-            HasRead system cost fed (record self.old { found = Found.At kept }) → HasRead system cost (fed ++ line.now ∷ []) self.new) }
-        ensures answer { IfOk result (λ answer. (system : Lists) (cost : CostTerm) (fed : List (List ℕ)) →
-            HasRead system cost fed (record self.old { found = Found.At kept }) → IsFed system cost (fed ++ line.now ∷ []) answer) }
+            HasRead system cost fed (record self.old { found = Found.At kept }) →
+            HasRead system cost (fed ++ line.now ∷ []) self.new) }
+        ensures answer { IfOk result (λ answer. (system : Lists) (cost : CostTerm)
+            (fed : List (List ℕ)) →
+            HasRead system cost fed (record self.old { found = Found.At kept }) →
+            IsFed system cost (fed ++ line.now ∷ []) answer) }
     {
         let found = after_line(&self.base, &mut self.sums, kept, line)?;
         match found {
@@ -135,9 +144,11 @@ impl<'a> Checker<'a> {
         }
     }
 
-    /// The answer to the lines that were fed, each with a line feed, and what stands behind the last line feed.
+    /// The answer to the lines that were fed, each with a line feed, and what stands behind the
+    /// last line feed.
     pub fn end(self, rest: &[u8]) -> Verdict
-        ensures { (system : Lists) (cost : CostTerm) (fed : List (List ℕ)) → HasRead system cost fed self.entry →
+        ensures { (system : Lists) (cost : CostTerm) (fed : List (List ℕ)) →
+            HasRead system cost fed self.entry →
             AreAnswered system cost AtHeader 1 (fed ++ rest.now ∷ []) result }
     {
         let Checker { number, found, .. } = self;
@@ -155,7 +166,8 @@ impl<'a> Checker<'a> {
 
 // The answer where the lines came to what is kept, and these bytes stand behind the last line feed.
 fn ended(kept: Kept, line: u64, rest: &[u8]) -> Verdict
-    ensures { (base : Over) (to : Place) → IsKept base kept to → result ≡ end_verdict to line rest.now }
+    ensures { (base : Over) (to : Place) → IsKept base kept to →
+        result ≡ end_verdict to line rest.now }
 {
     if !rest.is_empty() {
         return Verdict::No {

@@ -55,7 +55,8 @@ fn after_shape(base: &Base, vars: u32, clauses: u32) -> Found
 }
 
 fn other_system(base: &Base) -> Found
-    ensures { result ≡ Found.Failed (Reason.OtherSystem (length base.now.system.now.ranges) (length base.now.system.now.clauses)) }
+    ensures { result ≡ Found.Failed (Reason.OtherSystem (length base.now.system.now.ranges)
+        (length base.now.system.now.clauses)) }
 {
     Found::Failed(Reason::OtherSystem {
         vars: base.system.vars(),

@@ -1,4 +1,5 @@
-//! The answer to the text of a proof, by its lines: whether it is valid, and if not, which line fails first and why.
+//! The answer to the text of a proof, by its lines: whether it is valid, and if not, which line
+//! fails first and why.
 #![tactic(auto)]
 
 mod base;

@@ -40,7 +40,8 @@ pub(crate) fn after_line(
 
 // Why a line of that kind fails that has a number out of its range.
 fn unfit(kept: &Kept, kind: Kind) -> Reason
-    ensures { (base : Over) (at : Place) → IsKept base kept.now at → result ≡ (if may_stand at kind then reason.OutOfRange else reason.BadText) }
+    ensures { (base : Over) (at : Place) → IsKept base kept.now at →
+        result ≡ (if may_stand at kind then reason.OutOfRange else reason.BadText) }
 {
     if stands(kept, kind) {
         Reason::OutOfRange
@@ -103,7 +104,8 @@ fn placed(base: &Base, sums: &mut Sums, kept: Kept, line: Line) -> Result<Found,
     requires kept { (at : Place) × IsKept base.now kept at }
     requires once { TakesOnce line }
     requires clear { IsClear (length base.now.system.now.ranges) sums.old }
-    ensures gives { IfOk result (λ found. (at : Place) → IsKept base.now kept at → Comes base.now (LineOf base.now at line) found) }
+    ensures gives { IfOk result (λ found. (at : Place) → IsKept base.now kept at →
+        Comes base.now (LineOf base.now at line) found) }
     ensures clear { OnOk result (IsClear (length base.now.system.now.ranges) sums.new) }
 {
     match kept {

@@ -32,8 +32,10 @@ pub(crate) fn at_node(
     requires theory { (boxes : List (List Literal)) × IsTheory base.now theory boxes }
     requires once { TakesOnce line }
     requires clear { IsClear (length base.now.system.now.ranges) sums.old }
-    ensures gives { IfOk result (λ found. (boxes : List (List Literal)) → IsTheory base.now theory boxes →
-        Comes base.now (LineOf base.now (InTree (stage_of theory.levels) theory.clause boxes) line) found) }
+    ensures gives { IfOk result (λ found. (boxes : List (List Literal)) →
+        IsTheory base.now theory boxes →
+        Comes base.now (LineOf base.now (InTree
+        (stage_of theory.levels) theory.clause boxes) line) found) }
     ensures clear { OnOk result (IsClear (length base.now.system.now.ranges) sums.new) }
 {
     match line {
@@ -45,8 +47,10 @@ pub(crate) fn at_node(
 
 fn split(base: &Base, theory: Theory, var: u32, at: i128) -> Result<Found, NoMemory>
     requires { (boxes : List (List Literal)) × IsTheory base.now theory boxes }
-    ensures { IfOk result (λ found. (box : List Literal) (boxes : List (List Literal)) → IsTheory base.now theory (box ∷ boxes) →
-        Comes base.now (SplitGives base.now.system.now (stage_of theory.levels) theory.clause box boxes var at) found) }
+    ensures { IfOk result (λ found. (box : List Literal) (boxes : List (List Literal)) →
+        IsTheory base.now theory (box ∷ boxes) →
+        Comes base.now (SplitGives base.now.system.now
+        (stage_of theory.levels) theory.clause box boxes var at) found) }
 {
     if var >= base.system.vars() {
         return Ok(Found::Failed(Reason::OutOfRange));
@@ -62,8 +66,10 @@ fn halve(base: &Base, mut theory: Theory, var: u32, at: i128) -> Result<Found, N
     requires theory { (boxes : List (List Literal)) × IsTheory base.now theory boxes }
     requires exists { var < length base.now.system.now.ranges }
     requires fits { FitsSigned w128 (at +ℤ pos 1) }
-    ensures { IfOk result (λ found. (box : List Literal) (boxes : List (List Literal)) → IsTheory base.now theory (box ∷ boxes) →
-        Comes base.now (GoesTo (InTree (stage_of theory.levels) theory.clause ((low_half var at ∷ box) ∷ (high_half var at ∷ box) ∷ boxes))) found) }
+    ensures { IfOk result (λ found. (box : List Literal) (boxes : List (List Literal)) →
+        IsTheory base.now theory (box ∷ boxes) →
+        Comes base.now (GoesTo (InTree (stage_of theory.levels) theory.clause
+        ((low_half var at ∷ box) ∷ (high_half var at ∷ box) ∷ boxes))) found) }
 {
     theory.boxes.split(&mut theory.levels.bounds, var, at)?;
     Ok(Found::At(Kept::Tree(theory)))
@@ -78,8 +84,10 @@ fn leaf(
     requires theory { (boxes : List (List Literal)) × IsTheory base.now theory boxes }
     requires once { All (λ part. pos 1 ≤ℤ part.by) multiples.now }
     requires clear { IsClear (length base.now.system.now.ranges) sums.old }
-    ensures gives { IfOk result (λ found. (box : List Literal) (boxes : List (List Literal)) → IsTheory base.now theory (box ∷ boxes) →
-        Comes base.now (LeafGives base.now.system.now (stage_of theory.levels) theory.clause box boxes multiples.now) found) }
+    ensures gives { IfOk result (λ found. (box : List Literal) (boxes : List (List Literal)) →
+        IsTheory base.now theory (box ∷ boxes) →
+        Comes base.now (LeafGives base.now.system.now
+        (stage_of theory.levels) theory.clause box boxes multiples.now) found) }
     ensures clear { OnOk result (IsClear (length base.now.system.now.ranges) sums.new) }
 {
     let list = parts_of(base.alloc, multiples)?;
@@ -128,7 +136,8 @@ fn name_terms(system: &System, parts: &[FarkasPart]) -> bool
 // Goes on from the box of a leaf, which is refuted.
 fn refuted(base: &Base, mut theory: Theory) -> Result<Found, NoMemory>
     requires { (boxes : List (List Literal)) × IsTheory base.now theory boxes }
-    ensures { IfOk result (λ found. (box : List Literal) (boxes : List (List Literal)) → IsTheory base.now theory (box ∷ boxes) →
+    ensures { IfOk result (λ found. (box : List Literal) (boxes : List (List Literal)) →
+        IsTheory base.now theory (box ∷ boxes) →
         Comes base.now (GoesTo (after_leaf (stage_of theory.levels) theory.clause boxes)) found) }
 {
     let left = theory.boxes.next(&mut theory.levels.bounds)?;
@@ -141,7 +150,8 @@ fn refuted(base: &Base, mut theory: Theory) -> Result<Found, NoMemory>
 // The step of a theory has ended: no box of its tree is left.
 fn ended(base: &Base, theory: Theory) -> Result<Found, NoMemory>
     requires { IsRefuted base.now theory }
-    ensures { IfOk result (Comes base.now (GoesTo (AtStep (after_clause (stage_of theory.levels) theory.clause)))) }
+    ensures { IfOk result (Comes base.now (GoesTo
+        (AtStep (after_clause (stage_of theory.levels) theory.clause)))) }
 {
     let Theory {
         mut levels,

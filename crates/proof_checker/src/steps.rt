@@ -52,7 +52,8 @@ fn after_empty(base: &Base, levels: OpenLevels, line: Line) -> Result<Found, NoM
 fn lemma(base: &Base, mut levels: OpenLevels, clause: Lits, hints: Hints) -> Result<Found, NoMemory>
     requires sound { IsBase base.now }
     requires kept { AreLevels base.now.system.now base.now.cost levels }
-    ensures { IfOk result (Comes base.now (LemmaGives base.now.system.now base.now.cost (stage_of levels) clause hints)) }
+    ensures { IfOk result (Comes base.now (LemmaGives base.now.system.now base.now.cost
+        (stage_of levels) clause hints)) }
 {
     let lits = clause.items();
     let numbers = hints.items();
@@ -92,7 +93,8 @@ fn are_below(numbers: &[u32], limit: u64) -> bool
 
 fn begin_theory(base: &Base, mut levels: OpenLevels, clause: Lits) -> Result<Found, NoMemory>
     requires { AreLevels base.now.system.now base.now.cost levels }
-    ensures { IfOk result (Comes base.now (TheoryGives base.now.system.now base.now.cost (stage_of levels) clause)) }
+    ensures { IfOk result (Comes base.now (TheoryGives base.now.system.now base.now.cost
+        (stage_of levels) clause)) }
 {
     let lits = clause.items();
     if !names_terms(base.system, lits) {
@@ -116,7 +118,8 @@ fn begin_theory(base: &Base, mut levels: OpenLevels, clause: Lits) -> Result<Fou
 fn cut(base: &Base, levels: OpenLevels, term: Term, bound: i128) -> Result<Found, NoMemory>
     requires sound { IsBase base.now }
     requires kept { AreLevels base.now.system.now base.now.cost levels }
-    ensures { IfOk result (Comes base.now (CutGives base.now.system.now (stage_of levels) term bound)) }
+    ensures { IfOk result (Comes base.now (CutGives base.now.system.now
+        (stage_of levels) term bound)) }
 {
     if !has_term(base.system, term) {
         return Ok(Found::Failed(Reason::OutOfRange));
@@ -141,9 +144,11 @@ fn may_nest(levels: &OpenLevels) -> bool
 fn enter(base: &Base, levels: OpenLevels, term: Term, bound: i128) -> Result<Found, NoMemory>
     requires sound { IsBase base.now }
     requires kept { AreLevels base.now.system.now base.now.cost levels }
-    requires exists { Exists (length base.now.system.now.ranges) (length base.now.system.now.rows) term }
+    requires exists { Exists (length base.now.system.now.ranges)
+        (length base.now.system.now.rows) term }
     requires fits { FitsSigned w128 (bound +ℤ pos 1) }
-    ensures { IfOk result (Comes base.now (GoesTo (AtStep (after_enter (stage_of levels) term bound)))) }
+    ensures { IfOk result (Comes base.now (GoesTo
+        (AtStep (after_enter (stage_of levels) term bound)))) }
 {
     let inner = levels.entered(base.alloc, base.system, base.cost, term, bound)?;
     Ok(Found::At(Kept::Step(inner)))

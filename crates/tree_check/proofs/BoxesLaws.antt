@@ -1,14 +1,14 @@
 -- The boxes that are left after a split, and after one was refuted.
-use Rattle.std.proofs.Common.{◌≡◌, ◌↔◌, ◌+◌, ◌<◌, ℕ, ℤ, Option, None, List, [], ◌∷◌, ◌++◌, length, take, get_or, Result, Ok, Err, OnOk, refl, sym, ◌∙◌, ap, subst, reverse, All}
-use Rattle.std.proofs.lemmas.List.{append-nil, reverse-append}
+use Rattle.std.proofs.Common.{◌≡◌, ◌+◌, ◌<◌, ℕ, List, [], ◌∷◌, ◌++◌, length, take, get_or, Result, Ok, Err, OnOk, refl, sym, ◌∙◌, ap, subst, reverse, All}
+use Rattle.std.proofs.lemmas.List.{reverse-append}
 use Rattle.std.proofs.lemmas.List.Elements.{All-more}
 use Rattle.mix_system.specs.declared.literal.Lit.{Lit}
 use Rattle.mix_system.specs.declared.farkas.FarkasPart.{FarkasPart}
 use Rattle.mix_system.specs.Bounds.{IsIn}
 use Rattle.box_check.specs.declared.bounds.Bounds.{Bounds}
-use Rattle.box_check.specs.Bounds.{slot_of, SaysEnd, Says, HasSlot, Stands, Extends, IsSame, Tightens}
-use Rattle.box_check.proofs.BoundsLaws.{Extends_more}
-use Rattle.box_check.proofs.HintsLaws.{Stands-put, HasSlot-later, HasSlot-before}
+use Rattle.box_check.specs.Bounds.{Says, HasSlot, Stands, Extends, IsSame, Tightens}
+use Rattle.box_check.proofs.BoundsLaws.{Extends_more, same_extends}
+use Rattle.box_check.proofs.HintsLaws.{Stands-put, Stands-later, HasSlot-later}
 use Rattle.tree_check.specs.declared.boxes.Half.{Half}
 use Rattle.tree_check.specs.declared.boxes.OpenBoxes.{OpenBoxes}
 use Rattle.tree_check.specs.Boxes.{AreLeft, Stand}
@@ -45,26 +45,6 @@ left_extends base now (half ∷ halves) (box ∷ boxes) left = Extends_more base
 pub stand_extends : (base now : Bounds) (open' : OpenBoxes) (boxes : List (List Lit)) → Stand base now open' boxes → Extends base now
 stand_extends base now open' [] stand = absurd stand
 stand_extends base now open' (box ∷ boxes) stand = left_extends base now (reverse open'.halves.items) boxes stand.1
-
-pub same_extends : (old now : Bounds) → IsSame old now → Extends old now
-same_extends old now same = record {
-  more = [];
-  changes = same.changes ∙ sym (append-nil old.changes.items);
-  ends = same.ends;
-  vars = same.vars;
-}
-
-says_later : (old now : Bounds) (lit : Lit) → IsSame old now → Says old lit ↔ Says now lit
-says_later old now lit same =
-    let e : get_or now.ends.items (slot_of now.vars lit.term lit.side) None ≡ get_or old.ends.items (slot_of old.vars lit.term lit.side) None =
-    ap (λ (ends : List (Option ℤ)). get_or ends (slot_of now.vars lit.term lit.side) None) same.ends ∙ ap (λ (vars : ℕ). get_or old.ends.items (slot_of vars lit.term lit.side) None) same.vars in
-    (λ says. subst (λ (end : Option ℤ). SaysEnd lit.side lit.bound end) (sym e) says, λ says. subst (λ (end : Option ℤ). SaysEnd lit.side lit.bound end) e says)
-
-pub Stands-later : (old now : Bounds) (box : List Lit) → IsSame old now → Stands old box → Stands now box
-Stands-later old now box same stands lit has =
-    let says = says_later old now lit same in
-    let both = stands lit (HasSlot-before old now (same_extends old now same) lit.term has) in
-    (λ s. both.0 (says.1 s), λ within. says.0 (both.1 within))
 
 pub stand_start : (base bounds : Bounds) (open' : OpenBoxes) (box : List Lit) → open'.halves.items ≡ [] → Extends base bounds → Stands bounds box
     → Stand base bounds open' (box ∷ [])

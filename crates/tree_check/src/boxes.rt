@@ -12,14 +12,16 @@ use mix_system::{FarkasPart, Lit, Side, Term};
 use std::alloc::Global;
 use wx_base::NoMemory;
 
-/// The high half of a split whose low half is in work: the bound that it adds, and the mark of the box that was split.
+/// The high half of a split whose low half is in work: the bound that it adds, and the mark of the
+/// box that was split.
 #[derive(Clone, Copy, Debug)]
 pub struct Half {
     pub mark: usize,
     pub high: Lit,
 }
 
-/// The boxes of a tree that are left behind the one in force, as the high halves of its splits. The latest stands last.
+/// The boxes of a tree that are left behind the one in force, as the high halves of its splits. The
+/// latest stands last.
 #[derive(Debug, Drop)]
 pub struct OpenBoxes {
     pub halves: Vec<Half>,
@@ -37,7 +39,8 @@ pub enum Refuted {
 impl OpenBoxes {
     /// One box alone, the one that is in force. It takes no memory.
     pub fn new(alloc: Global) -> OpenBoxes
-        ensures { (base bounds : Kept) (box : List Literal) → Extends base bounds → Stands bounds box → Stand base bounds result (box ∷ []) }
+        ensures { (base bounds : Kept) (box : List Literal) → Extends base bounds →
+            Stands bounds box → Stand base bounds result (box ∷ []) }
     {
         OpenBoxes {
             halves: Vec::new(alloc),
@@ -50,7 +53,8 @@ impl OpenBoxes {
         requires slot { HasSlot bounds.old (Term.Var var) }
         ensures { OnOk result ((base : Kept) (box : List Literal) (boxes : List (List Literal)) →
             Stand base bounds.old self.old (box ∷ boxes)
-            → Stand base bounds.new self.new ((low_half var at ∷ box) ∷ (high_half var at ∷ box) ∷ boxes)) }
+            → Stand base bounds.new self.new ((low_half var at ∷ box) ∷
+            (high_half var at ∷ box) ∷ boxes)) }
     {
         let half = Half {
             mark: bounds.mark(),
@@ -62,9 +66,12 @@ impl OpenBoxes {
 
     /// Goes on from the box in force to the next that is left.
     pub fn next(&mut self, bounds: &mut Bounds) -> Result<Refuted, NoMemory>
-        requires { (base : Kept) × (boxes : List (List Literal)) × Stand base bounds.old self.old boxes }
-        ensures { IfOk result (λ left. (base : Kept) (box : List Literal) (boxes : List (List Literal)) →
-            Stand base bounds.old self.old (box ∷ boxes) → IsNext left base bounds.new self.new boxes) }
+        requires { (base : Kept) × (boxes : List (List Literal)) ×
+            Stand base bounds.old self.old boxes }
+        ensures { IfOk result (λ left. (base : Kept) (box : List Literal)
+            (boxes : List (List Literal)) →
+            Stand base bounds.old self.old (box ∷ boxes) →
+            IsNext left base bounds.new self.new boxes) }
     {
         let Some(half) = self.halves.pop() else {
             return Ok(Refuted::All);
@@ -99,7 +106,8 @@ fn high_of(var: u32, at: i128) -> Lit
 /// Whether all literals of a leaf are in the box in force.
 pub fn are_in(bounds: &Bounds, parts: &[FarkasPart]) -> bool
     requires { All (λ part. HasSlot bounds.now part.lit.term) parts.now }
-    ensures { (box : List Literal) → Stands bounds.now box → IsTrue result ↔ All (λ part. IsIn box part.lit) parts.now }
+    ensures { (box : List Literal) → Stands bounds.now box → IsTrue result ↔
+        All (λ part. IsIn box part.lit) parts.now }
 {
     for part in parts {
         if !bounds.says(part.lit) {

@@ -1,4 +1,5 @@
-//! The boxes of a tree of splits that are left: how a split halves the first of them, and how a leaf refutes it.
+//! The boxes of a tree of splits that are left: how a split halves the first of them, and how a
+//! leaf refutes it.
 #![tactic(auto)]
 
 mod boxes;

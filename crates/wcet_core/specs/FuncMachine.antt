@@ -2,7 +2,8 @@
 use Rattle.std.specs.Prelude.{◌≡◌}
 use Rattle.ll_tree.specs.declared.func.Func.{Func}
 use Rattle.ll_verifier.specs.Rules.{Rules}
-use Rattle.sound_costs.specs.Costs.{FuncCosts, AreCostsOf}
+use Rattle.number_runner.specs.Numbered.{Numbered, IsOf}
+use Rattle.sound_costs.specs.Costs.{FuncCosts, AreCostsOf, costs_by_label}
 
 -- A function, and what its blocks and edges cost.
 pub record CostedFunc : Type 0 where
@@ -14,7 +15,8 @@ pub record IsOwn (it : CostedFunc) : Type 0 where
   pub rules : Rules it.func
   pub costs : AreCostsOf it.func it.costs
 
--- A function that keeps all rules, its own costs, and a runner of that function.
-pub record IsReady (func : Func) (it : CostedFunc) : Type 0 where
+-- A function that keeps all rules, its own costs, and runners of that function.
+pub record IsReady (func : Func) (numbers : Numbered) (it : CostedFunc) : Type 0 where
   pub same : func ≡ it.func
   pub own : IsOwn it
+  pub numbers_are : IsOf it.func (costs_by_label it.func it.costs) numbers

@@ -8,14 +8,17 @@ use crate::priced::Priced;
 use ir_runner::Runner;
 use ir_runs::{RunEnd, each_list_ends_once};
 use ll_verifier::Sound;
+use number_runner::NumberRunner;
 use sound_costs::Costs;
 use std::alloc::Global;
 use std::marker::Model;
 use wx_base::NoMemory;
 
-/// A function with its costs, to be run again and again. Contracts see it as these two.
+/// A function with its costs, to be run again and again: over numbers alone, and where poison is met, over values.
+/// Contracts see it as function and costs.
 #[derive(Drop)]
 pub(crate) struct FuncMachine<'a> {
+    numbers: NumberRunner<'a>,
     runner: Runner<'a>,
     priced: Priced<'a>,
 }
@@ -27,7 +30,7 @@ impl<'a> Model for FuncMachine<'a> {
 
     ghost view = { λ machine. machine.priced };
 
-    ghost invariant = { λ machine. IsReady machine.runner.func machine.priced };
+    ghost invariant = { λ machine. IsReady machine.runner.func machine.numbers machine.priced };
 }
 
 impl<'a> FuncMachine<'a> {
@@ -43,7 +46,12 @@ impl<'a> FuncMachine<'a> {
     {
         let runner = Runner::new(alloc, sound)?;
         let priced = Priced::new(alloc, sound, costs)?;
-        Ok(FuncMachine { runner, priced })
+        let numbers = NumberRunner::new(alloc, sound, &priced)?;
+        Ok(FuncMachine {
+            numbers,
+            runner,
+            priced,
+        })
     }
 }
 
@@ -57,6 +65,9 @@ impl<'a> Machine for FuncMachine<'a> {
 
     fn run(&mut self, args: &[u32]) -> Option<u64> {
         each_list_ends_once();
+        if let Some(cost) = self.numbers.cost(args, &self.priced) {
+            return Some(cost);
+        }
         match self.runner.run(args, &self.priced) {
             RunEnd::Done { cost, .. } => Some(cost),
             RunEnd::Undefined { .. } => None,

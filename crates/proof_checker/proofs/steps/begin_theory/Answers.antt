@@ -16,7 +16,7 @@ returns-then-not-names_terms c =
     inl (λ named. false≢true (sym c.if-not-names_terms.true ∙ names named), refl)
 
 pub assume-requires : goal.assume-requires
-assume-requires c = record { over = c.requires.over; named = c.names_terms.ensures.0 c.if-not-names_terms.false }
+assume-requires c = record { over = c.requires.box.sound.over; named = c.names_terms.ensures.0 c.if-not-names_terms.false }
 
 pub returns-in-Some : goal.returns-in-Some
 returns-in-Some c =

@@ -27,7 +27,7 @@ returns-then-not-are_below c =
 pub follow_hints-requires : goal.follow_hints-requires
 follow_hints-requires c = record {
   formed = c.requires.sound.formed;
-  over = c.requires.kept.over;
+  over = c.requires.kept.box.sound.over;
   last = c.requires.kept.last;
   enclosing = subst (λ (levels : List OpenLevel). All (IsLevel c.args.base.now.system.now) levels) (sym c.as_slice.ensures.value) c.requires.kept.enclosing;
   named = c.names_terms.ensures.0 c.if-not-names_terms.false;
@@ -50,7 +50,7 @@ returns-in-Follows c =
     let below = rw c.items-numbers.ensures at (c.are_below.ensures.0 c.if-not-are_below.false) in
     let box = box_of base.system.now base.cost (levels_of levels.last levels.enclosing.items) in
     let shows = shown_at base.system.now levels.last box c.args.clause _ c.args.hints _ levels.enclosing.items _ c.in_ok-shown.shown shown.Follows c.items-lits.ensures c.items-numbers.ensures
-    c.as_slice.ensures.value c.in-Follows.is (c.in_ok-shown.ensures.exact box c.requires.kept.stands) in (
+    c.as_slice.ensures.value c.in-Follows.is (c.in_ok-shown.ensures.exact box c.requires.kept.box.stands) in (
       AtStep (stage_of c.in_ok-later-in-Follows.later),
       (refl, c.in_ok-later-in-Follows.ensures.kept),
       inr ((named, below), inr (shows.0, inr (shows.1, ap (λ (s : Stage). Next (AtStep s)) c.in_ok-later-in-Follows.ensures.stage))),
@@ -64,7 +64,7 @@ returns-in-Open c =
     let below = rw c.items-numbers.ensures at (c.are_below.ensures.0 c.if-not-are_below.false) in
     let box = box_of base.system.now base.cost (levels_of levels.last levels.enclosing.items) in
     let shows = shown_at base.system.now levels.last box c.args.clause _ c.args.hints _ levels.enclosing.items _ c.in_ok-shown.shown shown.Open c.items-lits.ensures c.items-numbers.ensures
-    c.as_slice.ensures.value c.in-Open.is (c.in_ok-shown.ensures.exact box c.requires.kept.stands) in
+    c.as_slice.ensures.value c.in-Open.is (c.in_ok-shown.ensures.exact box c.requires.kept.box.stands) in
     inr ((named, below), inr (shows.0, inl (shows.1, refl)))
 
 pub returns-in-TooLarge : goal.returns-in-TooLarge
@@ -75,5 +75,5 @@ returns-in-TooLarge c =
     let below = rw c.items-numbers.ensures at (c.are_below.ensures.0 c.if-not-are_below.false) in
     let box = box_of base.system.now base.cost (levels_of levels.last levels.enclosing.items) in
     let shows = shown_at base.system.now levels.last box c.args.clause _ c.args.hints _ levels.enclosing.items _ c.in_ok-shown.shown (shown.TooLarge c.in-TooLarge.excess) c.items-lits.ensures
-    c.items-numbers.ensures c.as_slice.ensures.value c.in-TooLarge.is (c.in_ok-shown.ensures.exact box c.requires.kept.stands) in
+    c.items-numbers.ensures c.as_slice.ensures.value c.in-TooLarge.is (c.in_ok-shown.ensures.exact box c.requires.kept.box.stands) in
     inr ((named, below), inl (c.in-TooLarge.excess, shows, refl))

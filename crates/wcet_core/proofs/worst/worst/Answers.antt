@@ -1,6 +1,9 @@
 use Rattle.std.proofs.Common.{◌≡◌, ℕ, List, map, refl, sym, ◌∙◌, ap, subst, arith}
+use Rattle.std.specs.Prelude.{sum}
+use Rattle.std.proofs.lemmas.List.Sums.{sum-map}
 use Rattle.ll_tree.specs.declared.func.Func.{Func}
 use Rattle.ll_tree.specs.declared.func.Param.{Param}
+use Rattle.ll_verifier.specs.Sound.{bits_of}
 use Rattle.ir_runs.specs.Costs.{Reached}
 use Rattle.ir_runs.specs.Walk.{widths_of}
 use Rattle.sound_costs.specs.Costs.{costs_by_label}
@@ -35,3 +38,10 @@ returns c =
       worst func (costs_by_label func c.args.costs.now) (λ args are. c.each_list_ends_once.ensures func args c.func.ensures.rules are) c.in-Some.best.args c.in-Some.best.cost c.in_ok-witness.witness best on c.in_ok-witness.ensures.run,
       c.new-portions.ensures,
     )
+
+pub try_all-requires-clause-bits : goal.try_all-requires-clause-bits
+try_all-requires-clause-bits c =
+    let func = c.args.sound.now.func in
+    let wide = widths_are func c.func.result.now c.items-params.result.now c.in_ok-widths.widths.items c.deref.result.now c.deref.ensures.value c.in_ok-widths.ensures c.items-params.ensures c.func.ensures.func in
+    let bits : sum c.deref.result.now ≡ bits_of func = ap sum wide ∙ sum-map (λ (param : Param). param.width) func.params in
+    omega (arith, bits, c.bits-bits.ensures, c.if-bits-most.false, c.requires.few)

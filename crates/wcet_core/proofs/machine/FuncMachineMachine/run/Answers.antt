@@ -40,3 +40,10 @@ returns-clause-only c = λ n reached. elim c.match-run.branch [
       let inside = subst (λ (it : CostedFunc). Reached it.func (costs_by_label it.func it.costs) n c.args.args.now) (sym c.self.view_is) reached in
       absurd (stuck_reaches_none it.func (costs_by_label it.func it.costs) (λ args are. c.each_list_ends_once.ensures it.func args c.self.invariant.own.rules are) c.args.args.now _ _ _ n answer inside)
 ]
+
+pub returns-in-Some-clause-only : goal.returns-in-Some-clause-only
+returns-in-Some-clause-only c = λ n reached.
+    let it = c.self.inside.priced in
+    let mine = subst (λ (func : Func). Reached func (costs_by_label it.func it.costs) c.in-Some.cost c.args.args.now) c.self.invariant.numbers_are.same c.in-Some.ensures.cost in
+    let inside = subst (λ (it : CostedFunc). Reached it.func (costs_by_label it.func it.costs) n c.args.args.now) (sym c.self.view_is) reached in
+    ap Some (one_cost it.func (costs_by_label it.func it.costs) (λ args are. c.each_list_ends_once.ensures it.func args c.self.invariant.own.rules are) c.args.args.now c.in-Some.cost n mine inside)

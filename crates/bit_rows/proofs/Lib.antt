@@ -1,0 +1,4 @@
+pub mod BitsLaws
+pub mod BitwiseLaws
+pub mod LayingLaws
+pub mod RowLaws

@@ -1,0 +1,6 @@
+pub mod Abs
+pub mod Division
+pub mod Extreme
+pub mod SignedDivision
+pub mod Unless
+pub mod UnsignedDivision

@@ -1,0 +1,9 @@
+pub mod Bias
+pub mod Costs
+pub mod Fuse
+pub mod Goes
+pub mod Numbered
+pub mod Place
+pub mod Stands
+pub mod Steps
+pub mod Ways

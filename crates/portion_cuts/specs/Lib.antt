@@ -1,0 +1,4 @@
+pub mod Best
+pub mod Paths
+pub mod Portions
+pub mod Reach

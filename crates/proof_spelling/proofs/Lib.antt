@@ -1,0 +1,13 @@
+mod DraftLaws
+mod LineLaws
+mod LineWords
+mod LiteralLaws
+mod NumberLaws
+mod ParseLaws
+mod PrintLaws
+mod RunLaws
+mod SaidLaws
+mod SameLaws
+mod SpellLaws
+mod TextLaws
+mod WordSplitLaws
