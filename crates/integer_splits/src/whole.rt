@@ -53,13 +53,11 @@ fn whole_value(alloc: Global, simplex: &Simplex<'_>, var: u32) -> Result<Option<
         (IsValueOf simplex.now.bounds simplex.now.tableau.rows.items
         simplex.now.values.items var)) }
 {
-    match simplex.value(alloc, Term::Var(var))? {
-        Ok(ratio) => {
-            if ratio.den != 1 {
-                return Ok(None);
-            }
-            Ok(Some(ratio.num))
-        }
-        Err(_) => Ok(None),
+    let Ok(ratio) = simplex.value(alloc, Term::Var(var))? else {
+        return Ok(None);
+    };
+    if ratio.den != 1 {
+        return Ok(None);
     }
+    Ok(Some(ratio.num))
 }
