@@ -7,8 +7,8 @@ use wx_base::NoMemory;
 use wx_num::Excess;
 
 // `check BUDGET ROOM WORD ..` over a simplex of the system, which lasts for the row. A literal is put to
-// the bounds, `?` is a check, `back2` gives all but the first two back, `back` all, `made` shows the pivots of the last check, and `all`
-// each column too: its bounds, and its value where there is a point.
+// the bounds, `?` is a check, `back2` gives all but the first two changes back and `back` all, `made` shows
+// the pivots of the last check, and `all` each column too: its bounds, and its value where there is a point.
 pub fn answer(alloc: Global, system: &System, call: &str) -> Result<String, NoMemory> {
     let (budget, rest) = call.split_once(' ').unwrap_or((call, ""));
     let (room, words) = rest.split_once(' ').unwrap_or((rest, ""));
