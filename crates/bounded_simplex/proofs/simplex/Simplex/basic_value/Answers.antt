@@ -1,7 +1,6 @@
-use Rattle.std.proofs.Common.{◌≡◌, ◌<◌, length, pos, ◌*ℤ◌, FitsSigned, All, sym, ap, subst, ◌∙◌, inl, rules, arith}
+use Rattle.std.proofs.Common.{◌≡◌, length, pos, ◌*ℤ◌, FitsSigned, sym, ap, subst, ◌∙◌, inl, rules, arith}
 use Rattle.std.specs.Int.{w128}
-use Rattle.std.proofs.lemmas.Int.{ints, to_z-of_z}
-use Rattle.tableau_rows.specs.declared.entry.Entry.{Entry}
+use Rattle.std.proofs.lemmas.Int.{to_z-of_z}
 use Rattle.tableau_rows.specs.declared.equation.Equation.{Equation}
 use Rattle.tableau_rows.specs.Substitution.{taken}
 use Rattle.wx_num.specs.Excess.{Overflows}

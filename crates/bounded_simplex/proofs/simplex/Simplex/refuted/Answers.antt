@@ -1,4 +1,4 @@
-use Rattle.std.proofs.Common.{◌≡◌, ◌⊎◌, pos, length, All, sym, ap, subst, ◌∙◌, inl, Ok, rules}
+use Rattle.std.proofs.Common.{◌≡◌, ◌⊎◌, pos, All, sym, ap, subst, ◌∙◌, inl, Ok, rules}
 use Rattle.wx_num.specs.Excess.{Overflows}
 use Rattle.mix_system.specs.Row.{number_at}
 use Rattle.tableau_rows.specs.declared.entry.Entry.{Entry}
