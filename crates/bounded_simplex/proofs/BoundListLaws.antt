@@ -1,6 +1,6 @@
 -- One more change of the bounds, and one fewer.
-use Rattle.std.proofs.Common.{◌≡◌, ◌≢◌, ℕ, zero, suc, ◌+◌, ◌*◌, ◌-◌, ◌<◌, ◌≤◌, Bool, true, false, cond, eqb, List, [], ◌∷◌, ◌++◌, length, get_or, take, set, map, Option, None, Some, ℤ, All, refl, sym, ap, ◌∙◌, subst, ⊎_elim, arith}
-use Rattle.std.specs.Prelude.{◌&&◌, fold}
+use Rattle.std.proofs.Common.{◌≡◌, ◌≢◌, ℕ, ◌+◌, ◌*◌, ◌<◌, ◌≤◌, Bool, true, false, cond, eqb, List, [], ◌∷◌, ◌++◌, length, get_or, set, Option, None, ℤ, All, refl, sym, ap, ◌∙◌, subst, ⊎_elim, arith}
+use Rattle.std.specs.Prelude.{◌&&◌}
 use Rattle.std.proofs.lemmas.Bool.{cases_lt, cases_Bool, false≢true}
 use Rattle.std.proofs.lemmas.Bool.Decides.{nat_tests}
 use Rattle.std.proofs.lemmas.List.{get_or_default, get_or_append_left, get_or_at, get_or-set_same, get_or-set_other, take-append-le, take_at, map-append, length-append}
@@ -13,7 +13,7 @@ use Rattle.mix_system.specs.declared.literal.Lit.{Lit}
 use Rattle.mix_system.specs.System.{System, Exists}
 use Rattle.mix_system.specs.Tally.{is_same_term}
 use Rattle.bounded_simplex.specs.TableauOf.{column_of}
-use Rattle.bounded_simplex.specs.BoundPlaces.{side_place, place_of}
+use Rattle.bounded_simplex.specs.BoundPlaces.{place_of}
 use Rattle.bounded_simplex.specs.InForce.{BoundChanges, is_same_side, bounds_on, tightened, after_change, from_ranges, in_force}
 use Rattle.bounded_simplex.specs.StoredBounds.{lits_of, AreReplaced, AreEnds}
 use Rattle.bounded_simplex.specs.declared.bounds.Change.{Change}

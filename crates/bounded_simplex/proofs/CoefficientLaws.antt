@@ -3,7 +3,6 @@ use Rattle.std.proofs.Common.{◌≡◌, ℕ, ◌+◌, ◌-◌, ◌<◌, ◌≤�
 use Rattle.std.proofs.lemmas.Int.{ints}
 use Rattle.std.proofs.lemmas.Bool.Decides.{nat_tests}
 use Rattle.std.proofs.lemmas.List.Elements.{All-head, All-tail}
-use Rattle.mix_system.specs.declared.literal.Term.{Term}
 use Rattle.mix_system.specs.declared.literal.Term.TheVariants.{Var, Row}
 use Rattle.mix_system.specs.declared.row.Part.{Part}
 use Rattle.mix_system.specs.Sum.{int_sum_by}
@@ -11,7 +10,7 @@ use Rattle.mix_system.specs.System.{System, IsRow, IsWellFormed}
 use Rattle.mix_system.specs.FarkasSum.{coeff_on}
 use Rattle.tableau_rows.specs.declared.equation.Equation.{Equation}
 use Rattle.tableau_rows.specs.Equation.{total}
-use Rattle.bounded_simplex.specs.TableauOf.{Solves, TableauOf, column_of}
+use Rattle.bounded_simplex.specs.TableauOf.{Solves, TableauOf}
 use Rattle.bounded_simplex.specs.Terms.{term_of, times_in, times_in_column}
 
 below_true : (a b : ℕ) → a < b → ltb a b ≡ true

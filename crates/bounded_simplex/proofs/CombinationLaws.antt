@@ -1,11 +1,11 @@
 -- Parts that are put together, one by one, and the steps of it.
-use Rattle.std.proofs.Common.{◌≡◌, ◌≢◌, ◌⊎◌, ℕ, ◌+◌, ◌<◌, Bool, true, false, cond, eqb, List, [], ◌∷◌, ◌++◌, append_assoc, length, get_or, take, drop, set, ℤ, pos, neg_ℤ, ◌+ℤ◌, ◌-ℤ◌, ◌*ℤ◌, All, refl, sym, ap, ◌∙◌, subst, ⊎_elim, arith}
+use Rattle.std.proofs.Common.{◌≡◌, ◌≢◌, ◌⊎◌, ℕ, ◌+◌, ◌<◌, true, false, cond, eqb, List, [], ◌∷◌, ◌++◌, append_assoc, length, get_or, take, drop, set, ℤ, pos, ◌+ℤ◌, ◌*ℤ◌, All, sym, ap, ◌∙◌, subst, ⊎_elim, arith}
 use Rattle.std.proofs.lemmas.Int.{ints}
 use Rattle.std.proofs.lemmas.Bool.{cases_eq}
 use Rattle.std.proofs.lemmas.Bool.Decides.{nat_tests}
 use Rattle.std.proofs.lemmas.List.{take_more, take-append-drop, get_or-set_same, get_or-set_other}
 use Rattle.std.proofs.lemmas.List.Elements.{All-cons, All-nil, All-append}
-use Rattle.wx_num.specs.declared.excess.NumOp.TheVariants.{Plus, Minus, Times}
+use Rattle.wx_num.specs.declared.excess.NumOp.TheVariants.{Times}
 use Rattle.wx_num.specs.declared.excess.Excess.{Excess}
 use Rattle.mix_system.specs.declared.literal.Side.{Side}
 use Rattle.mix_system.specs.declared.literal.Side.TheVariants.{Le, Ge}

@@ -1,8 +1,8 @@
 -- The bounds in force on a variable: there is one on each side, and it is as tight as the range's.
-use Rattle.std.proofs.Common.{◌≡◌, ℕ, ◌<◌, Bool, true, false, cond, List, [], ◌∷◌, length, get_or, Option, None, Some, ℤ, pos, ◌≤ℤ◌, ◌<ℤ◌, refl, sym, ap, ◌∙◌, subst, ⊎_elim, arith}
+use Rattle.std.proofs.Common.{◌≡◌, ℕ, Bool, true, false, cond, List, [], ◌∷◌, get_or, Option, Some, ℤ, pos, ◌≤ℤ◌, ◌<ℤ◌, refl, sym, ap, ◌∙◌, subst, ⊎_elim, arith}
 use Rattle.std.specs.Prelude.{fold, int_lt}
 use Rattle.std.proofs.lemmas.Int.{ints}
-use Rattle.std.proofs.lemmas.Bool.{cases_Bool, cases_cond}
+use Rattle.std.proofs.lemmas.Bool.{cases_Bool}
 use Rattle.mix_system.specs.declared.literal.Term.{Term}
 use Rattle.mix_system.specs.declared.literal.Term.TheVariants.{Var}
 use Rattle.mix_system.specs.declared.literal.Side.{Side}
@@ -11,7 +11,7 @@ use Rattle.mix_system.specs.declared.literal.Lit.{Lit}
 use Rattle.mix_system.specs.Lit.{IsWithin}
 use Rattle.mix_system.specs.Fits.{IsInRange}
 use Rattle.mix_system.specs.Bounds.{range_end}
-use Rattle.bounded_simplex.specs.InForce.{BoundChanges, bounds_on, tighter, tightened, after_change, from_ranges, in_force, Contradict}
+use Rattle.bounded_simplex.specs.InForce.{BoundChanges, bounds_on, tighter, tightened, after_change, in_force, Contradict}
 
 within_refl : (side : Side) (end : ℤ) → IsWithin side end end
 within_refl Le end = omega (arith, ints)

@@ -1,15 +1,13 @@
 -- The bounds of the ranges, in their places.
-use Rattle.std.proofs.Common.{◌≡◌, ℕ, zero, suc, ◌+◌, ◌*◌, ◌<◌, ◌≤◌, List, [], ◌∷◌, ◌++◌, length, get_or, Option, None, Some, ℤ, pos, refl, sym, ap, ◌∙◌, subst, ⊎_elim, arith}
+use Rattle.std.proofs.Common.{◌≡◌, ℕ, ◌+◌, ◌*◌, ◌<◌, ◌≤◌, List, [], ◌∷◌, ◌++◌, length, get_or, Option, None, Some, ℤ, pos, sym, ap, ◌∙◌, ⊎_elim, arith}
 use Rattle.std.proofs.lemmas.Bool.{cases_lt, cases_eq}
 use Rattle.std.proofs.lemmas.List.{get_or_append_left, get_or_at, get_or_past, length-append, append_assoc}
-use Rattle.mix_system.specs.declared.literal.Term.{Term}
 use Rattle.mix_system.specs.declared.literal.Term.TheVariants.{Var, Row}
 use Rattle.mix_system.specs.declared.literal.Side.{Side}
 use Rattle.mix_system.specs.declared.literal.Side.TheVariants.{Le, Ge}
-use Rattle.mix_system.specs.System.{System, Exists}
+use Rattle.mix_system.specs.System.{System}
 use Rattle.mix_system.specs.Bounds.{range_end}
-use Rattle.bounded_simplex.specs.BoundPlaces.{side_place, place_of}
-use Rattle.bounded_simplex.specs.InForce.{BoundChanges, in_force}
+use Rattle.bounded_simplex.specs.BoundPlaces.{side_place}
 use Rattle.bounded_simplex.specs.StoredBounds.{AreEnds}
 
 -- the ends of the first ranges stand in their places

@@ -1,20 +1,18 @@
 -- The tableau whose basis is the rows.
-use Rattle.std.proofs.Common.{◌≡◌, ◌≢◌, ◌↔◌, ℕ, zero, suc, ◌+◌, ◌<◌, ◌≤◌, List, [], ◌∷◌, ◌++◌, length, get_or, map, ℤ, pos, negsuc, neg_ℤ, ◌+ℤ◌, ◌-ℤ◌, ◌*ℤ◌, All, refl, sym, ap, ◌∙◌, subst, ⊎_elim, arith}
+use Rattle.std.proofs.Common.{◌≡◌, ◌≢◌, ℕ, ◌+◌, ◌<◌, ◌≤◌, List, [], ◌∷◌, ◌++◌, length, get_or, map, ℤ, pos, negsuc, ◌-ℤ◌, ◌*ℤ◌, sym, ap, ◌∙◌, subst, ⊎_elim, arith}
 use Rattle.std.proofs.lemmas.Int.{ints}
 use Rattle.std.proofs.lemmas.Bool.{cases_lt}
-use Rattle.std.proofs.lemmas.List.{get_or_default, get_or_append_left, get_or_at}
+use Rattle.std.proofs.lemmas.List.{get_or_append_left, get_or_at}
 use Rattle.std.proofs.lemmas.List.Elements.{All-push, All-map, All-weaker}
-use Rattle.mix_system.specs.declared.row.Part.{Part}
 use Rattle.mix_system.specs.Sum.{int_sum_by}
 use Rattle.mix_system.specs.System.{System, IsRow, IsWellFormed}
-use Rattle.tableau_rows.specs.declared.entry.Entry.{Entry}
 use Rattle.tableau_rows.specs.declared.equation.Equation.{Equation}
-use Rattle.tableau_rows.specs.Equation.{total, unit, coefficient}
-use Rattle.tableau_rows.specs.Substitution.{taken, sum_at, Satisfies}
+use Rattle.tableau_rows.specs.Equation.{total, coefficient}
+use Rattle.tableau_rows.specs.Substitution.{taken, sum_at}
 use Rattle.tableau_rows.specs.Turning.{entry_of}
-use Rattle.tableau_rows.proofs.TotalLaws.{total_push, unit_other, coefficient_none}
+use Rattle.tableau_rows.proofs.TotalLaws.{total_push, coefficient_none}
 use Rattle.tableau_rows.proofs.FirstRowLaws.{parts_total}
-use Rattle.bounded_simplex.specs.TableauOf.{Solves, AllHold, AreApart, TableauOf, IsOfRow}
+use Rattle.bounded_simplex.specs.TableauOf.{AllHold, TableauOf, IsOfRow}
 
 -- what the entries of a row's equation add up to
 first_sum : (system : System) (row : ℕ) (equation : Equation) → IsOfRow system row equation → (number : ℕ → ℤ)

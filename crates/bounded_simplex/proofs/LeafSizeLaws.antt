@@ -6,9 +6,9 @@ use Rattle.std.proofs.lemmas.Int.{ints, unsigned_abs-mul, fits_signed_from_abs}
 use Rattle.std.proofs.lemmas.Bool.{cases_eq}
 use Rattle.std.proofs.lemmas.Bool.Decides.{nat_tests}
 use Rattle.std.proofs.lemmas.Nat.{mul-le}
-use Rattle.std.proofs.lemmas.List.Elements.{All-head, All-tail, All-cons, All-nil, All-append, All-weaker, All-map, filter-append}
+use Rattle.std.proofs.lemmas.List.Elements.{All-head, All-tail, All-cons, All-nil, All-append, All-weaker}
 use Rattle.std.proofs.lemmas.List.Sums.{sum_by-cons}
-use Rattle.wx_num.specs.declared.excess.NumOp.TheVariants.{Plus, Minus, Times}
+use Rattle.wx_num.specs.declared.excess.NumOp.TheVariants.{Times}
 use Rattle.wx_num.specs.declared.excess.Excess.{Excess}
 use Rattle.mix_system.specs.declared.literal.Side.{Side}
 use Rattle.mix_system.specs.declared.literal.Side.TheVariants.{Le, Ge}
@@ -16,19 +16,17 @@ use Rattle.mix_system.specs.declared.literal.Term.{Term}
 use Rattle.mix_system.specs.declared.literal.Term.TheVariants.{Var, Row}
 use Rattle.mix_system.specs.declared.row.Part.{Part}
 use Rattle.mix_system.specs.declared.farkas.FarkasPart.{FarkasPart}
-use Rattle.mix_system.specs.Calm.{IsCalm, IsSmall, range_size, part_size, row_size}
+use Rattle.mix_system.specs.Calm.{IsCalm, IsSmall, part_size, row_size}
 use Rattle.mix_system.specs.Fits.{IsInRange}
 use Rattle.mix_system.specs.Sum.{int_sum_by}
 use Rattle.mix_system.specs.System.{System, Exists, IsWellFormed}
 use Rattle.mix_system.specs.FarkasSum.{parts_of, by_side, coeff_on, sum_op, weight, bound_weight, term_steps, leaf_steps_from, leaf_steps}
 use Rattle.mix_system.proofs.SizeLaws.{above_negated_size, below_size, unsigned_abs-le, unsigned_abs-add, unsigned_abs-in_range}
 use Rattle.tableau_rows.specs.declared.entry.Entry.{Entry}
-use Rattle.tableau_rows.specs.declared.equation.Equation.{Equation}
-use Rattle.tableau_rows.specs.Turning.{others, entry_of, turned_number}
+use Rattle.tableau_rows.specs.Turning.{entry_of, turned_number}
 use Rattle.bounded_simplex.specs.InForce.{BoundChanges, in_force}
-use Rattle.bounded_simplex.specs.Combination.{ArePartsOf, Fits, AreSmall, IsCalmBox}
+use Rattle.bounded_simplex.specs.Combination.{ArePartsOf, Fits, IsCalmBox}
 use Rattle.bounded_simplex.specs.Refutation.{IsPartOf}
-use Rattle.bounded_simplex.specs.Terms.{term_of}
 use Rattle.bounded_simplex.proofs.CoefficientLaws.{term_of_var, term_of_row}
 use Rattle.bounded_simplex.proofs.CombinationLaws.{by_side_zero}
 use Rattle.bounded_simplex.proofs.EndLaws.{range_at}

@@ -16,3 +16,4 @@ pub mod PointLaws
 pub mod StepLaws
 pub mod RatioLaws
 pub mod CombinationLaws
+pub mod ListingLaws

@@ -1,11 +1,11 @@
 -- What a pivot keeps: the solutions, and that no equation takes the basic column of another.
-use Rattle.std.proofs.Common.{◌≡◌, ◌≢◌, ◌↔◌, ◌⊎◌, ℕ, zero, suc, ◌+◌, ◌<◌, ◌≤◌, List, [], ◌∷◌, ◌++◌, length, get_or, take, set, Option, None, Some, ℤ, pos, ◌+ℤ◌, ◌-ℤ◌, ◌*ℤ◌, All, refl, sym, ap, ◌∙◌, subst, inl, inr, ⊎_elim, arith}
+use Rattle.std.proofs.Common.{◌≡◌, ◌≢◌, ℕ, ◌+◌, ◌<◌, ◌≤◌, List, [], ◌∷◌, ◌++◌, length, get_or, Option, None, Some, ℤ, pos, ◌*ℤ◌, refl, sym, ap, ◌∙◌, subst, ⊎_elim, arith}
 use Rattle.std.proofs.lemmas.Int.{ints}
 use Rattle.std.proofs.lemmas.Bool.{cases_eq, cases_lt}
 use Rattle.std.proofs.lemmas.List.{get_or_default, get_or_append_left, get_or_at}
 use Rattle.tableau_rows.specs.Equation.{unit}
 use Rattle.tableau_rows.specs.declared.equation.Equation.{Equation}
-use Rattle.tableau_rows.specs.Substitution.{taken, sum_at, Satisfies, IsMultiple, IsCombination}
+use Rattle.tableau_rows.specs.Substitution.{taken, sum_at, IsMultiple, IsCombination}
 use Rattle.tableau_rows.proofs.RingLaws.{mul-eq-zero}
 use Rattle.bounded_simplex.specs.TableauOf.{AllHold, AreApart, AreWithin, TableauOf}
 use Rattle.mix_system.specs.System.{System}

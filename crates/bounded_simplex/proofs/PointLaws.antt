@@ -1,6 +1,6 @@
 -- The kept point: there is one, and each bound keeps or breaks all ways to write it.
-use Rattle.std.proofs.Common.{◌≡◌, ◌≢◌, ℕ, zero, suc, ◌<◌, ◌≤◌, Bool, true, false, cond, eqb, List, [], ◌∷◌, length, get_or, Option, None, Some, ℤ, pos, negsuc, neg_ℤ, ◌+ℤ◌, ◌-ℤ◌, ◌*ℤ◌, ◌≤ℤ◌, ◌<ℤ◌, All, refl, sym, ap, ◌∙◌, subst, ◌⊎◌, inl, inr, ⊎_elim, arith}
-use Rattle.std.specs.Prelude.{not, filter}
+use Rattle.std.proofs.Common.{◌≡◌, ◌≢◌, ℕ, suc, ◌<◌, ◌≤◌, true, false, cond, eqb, List, [], ◌∷◌, length, get_or, Option, None, Some, ℤ, pos, negsuc, ◌+ℤ◌, ◌-ℤ◌, ◌*ℤ◌, ◌≤ℤ◌, All, refl, sym, ap, ◌∙◌, subst, ◌⊎◌, inl, inr, ⊎_elim, arith}
+use Rattle.std.specs.Prelude.{not}
 use Rattle.std.proofs.lemmas.Int.{ints}
 use Rattle.std.proofs.lemmas.Bool.{cases_eq, cases_lt}
 use Rattle.std.proofs.lemmas.Bool.Decides.{nat_tests}
@@ -18,7 +18,7 @@ use Rattle.tableau_rows.specs.Equation.{total, unit, coefficient}
 use Rattle.tableau_rows.specs.Substitution.{taken, sum_at, Satisfies}
 use Rattle.tableau_rows.specs.Turning.{others}
 use Rattle.tableau_rows.proofs.TotalLaws.{unit_same, unit_other}
-use Rattle.tableau_rows.proofs.RingLaws.{mul_comm, add-mul, mul-add, mul_assoc, mul-neg, neg-mul}
+use Rattle.tableau_rows.proofs.RingLaws.{mul_comm, add-mul, mul-add, mul_assoc, neg-mul}
 use Rattle.bounded_simplex.specs.InForce.{BoundChanges}
 use Rattle.bounded_simplex.specs.Point.{Admits, AreInBounds, numerator_of, Keeps, IsOutside, IsKeptPoint, IsPoint, IsBeyond}
 use Rattle.bounded_simplex.specs.Refutation.{columns_of, bound_on}

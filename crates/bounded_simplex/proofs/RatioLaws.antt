@@ -1,5 +1,5 @@
 -- Numbers in lowest terms, and the value that they are.
-use Rattle.std.proofs.Common.{◌≡◌, ◌≢◌, ℕ, zero, suc, ◌*◌, ◌<◌, ◌^◌, List, [], ◌∷◌, length, get_or, Result, Ok, Err, FitsSigned, ℤ, pos, negsuc, ◌-ℤ◌, ◌*ℤ◌, ◌≤ℤ◌, sym, ap, ◌∙◌, subst, arith}
+use Rattle.std.proofs.Common.{◌≡◌, ℕ, zero, suc, ◌*◌, ◌<◌, ◌^◌, List, [], ◌∷◌, length, get_or, Result, Ok, Err, FitsSigned, ℤ, pos, negsuc, ◌-ℤ◌, ◌*ℤ◌, ◌≤ℤ◌, sym, ap, ◌∙◌, subst, arith}
 use Rattle.std.specs.Prelude.{unsigned_abs, IfOk, IfErr}
 use Rattle.tableau_rows.specs.declared.equation.Equation.{Equation}
 use Rattle.std.specs.Int.{◌∣◌, IsGcd, w128}

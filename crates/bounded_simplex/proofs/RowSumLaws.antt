@@ -1,13 +1,12 @@
 -- A row's bound and one bound of each of its variables: what they form fits in a calm box in which each variable is fixed, and they refute it where the sum breaks the bound.
-use Rattle.std.proofs.Common.{◌≡◌, ◌≢◌, ℕ, ◌+◌, ◌-◌, ◌^◌, ◌<◌, ◌≤◌, Bool, true, false, cond, eqb, List, [], ◌∷◌, ◌++◌, length, get_or, map, Option, None, Some, Result, Ok, Err, ℤ, pos, negsuc, neg_ℤ, ◌+ℤ◌, ◌-ℤ◌, ◌*ℤ◌, ◌≤ℤ◌, ◌<ℤ◌, All, refl, sym, ap, ◌∙◌, subst, ◌⊎◌, ⊎_elim, arith}
+use Rattle.std.proofs.Common.{◌≡◌, ◌≢◌, ℕ, ◌+◌, ◌^◌, ◌<◌, ◌≤◌, Bool, true, false, cond, eqb, List, [], ◌∷◌, ◌++◌, length, get_or, map, Option, None, Some, Result, Ok, ℤ, pos, negsuc, neg_ℤ, ◌+ℤ◌, ◌-ℤ◌, ◌*ℤ◌, ◌≤ℤ◌, ◌<ℤ◌, All, refl, sym, ap, ◌∙◌, subst, ⊎_elim, arith}
 use Rattle.std.specs.Prelude.{unsigned_abs, not, IfOk, IfNone, IsSome}
 use Rattle.std.specs.Int.{w128}
 use Rattle.std.proofs.lemmas.Int.{ints, fits_signed_from_abs}
 use Rattle.std.proofs.lemmas.Bool.{cases_eq, cases_lt}
 use Rattle.std.proofs.lemmas.Bool.Decides.{nat_tests}
 use Rattle.std.proofs.lemmas.List.{append-nil, get_or_at, length-append}
-use Rattle.std.proofs.lemmas.List.Elements.{All-head, All-tail, All-cons, All-nil, All-weaker, All-map, filter-append}
-use Rattle.wx_num.specs.declared.excess.NumOp.TheVariants.{Minus}
+use Rattle.std.proofs.lemmas.List.Elements.{All-head, All-tail, All-cons, All-weaker, All-map, filter-append}
 use Rattle.wx_num.specs.declared.excess.Excess.{Excess}
 use Rattle.wx_num.specs.Excess.{Overflows}
 use Rattle.mix_system.specs.declared.farkas.Farkas.{Farkas}
@@ -16,7 +15,7 @@ use Rattle.mix_system.specs.declared.literal.Side.TheVariants.{Le, Ge}
 use Rattle.mix_system.specs.declared.literal.Term.TheVariants.{Var, Row}
 use Rattle.mix_system.specs.declared.row.Part.{Part}
 use Rattle.mix_system.specs.Calm.{IsSmall}
-use Rattle.mix_system.specs.Row.{number_at, product_at, row_value}
+use Rattle.mix_system.specs.Row.{number_at, row_value}
 use Rattle.mix_system.specs.Sum.{int_sum_by}
 use Rattle.mix_system.specs.System.{System, IsRow}
 use Rattle.mix_system.specs.FarkasSum.{coeff_on}
@@ -29,16 +28,16 @@ use Rattle.tableau_rows.proofs.FirstRowLaws.{parts_total}
 use Rattle.tableau_rows.proofs.TotalLaws.{total_push, unit_same, unit_other, coefficient_none}
 use Rattle.bounded_simplex.specs.Broken.{side_of}
 use Rattle.bounded_simplex.specs.InForce.{BoundChanges, in_force, Contradict}
-use Rattle.bounded_simplex.specs.Combination.{basic_entry, in_order, Fits, IsAmong, IsLeafStep, IsCombineStep, IsCalmBox}
+use Rattle.bounded_simplex.specs.Combination.{in_order, Fits, IsAmong, IsCombineStep, IsCalmBox}
 use Rattle.bounded_simplex.specs.Point.{Admits}
-use Rattle.bounded_simplex.specs.Refutation.{bound_on, hindering, IsHindered}
+use Rattle.bounded_simplex.specs.Refutation.{hindering, IsHindered}
 use Rattle.bounded_simplex.specs.Sums.{IsFixedAt, KeepsSum}
 use Rattle.bounded_simplex.specs.TableauOf.{IsOfRow}
 use Rattle.bounded_simplex.proofs.CoefficientLaws.{term_of_var, term_of_row}
-use Rattle.bounded_simplex.proofs.EndLaws.{range_at, end_in_range}
+use Rattle.bounded_simplex.proofs.EndLaws.{end_in_range}
 use Rattle.bounded_simplex.proofs.LeafSizeLaws.{coeffs_size, sub_size, coeff_same, coeff_other, AreInRanges, row_entry, row_fit}
 use Rattle.bounded_simplex.proofs.StepLaws.{no_none}
-use Rattle.bounded_simplex.proofs.PointLaws.{others_skip, others_keep, total_same, le_or_above}
+use Rattle.bounded_simplex.proofs.PointLaws.{others_skip, others_keep, le_or_above}
 
 -- the equation of a row, in the order of its parts
 

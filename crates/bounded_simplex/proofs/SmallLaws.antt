@@ -1,5 +1,5 @@
 -- Bounds in force are small where the ranges and all changes are.
-use Rattle.std.proofs.Common.{◌≡◌, ℕ, ◌<◌, cond, List, [], ◌∷◌, length, get_or, Option, None, Some, ℤ, pos, All, refl, sym, ap, ◌∙◌, subst, ⊎_elim}
+use Rattle.std.proofs.Common.{◌≡◌, cond, List, [], ◌∷◌, length, get_or, Option, Some, ℤ, pos, All, sym, ap, ◌∙◌, subst, ⊎_elim}
 use Rattle.std.specs.Prelude.{fold}
 use Rattle.std.proofs.lemmas.Bool.{cases_Bool}
 use Rattle.std.proofs.lemmas.List.Elements.{All-head, All-tail}
@@ -12,7 +12,7 @@ use Rattle.mix_system.specs.Calm.{IsCalm, IsSmall}
 use Rattle.mix_system.specs.System.{Exists}
 use Rattle.mix_system.specs.Bounds.{range_end}
 use Rattle.bounded_simplex.specs.Combination.{AreSmall}
-use Rattle.bounded_simplex.specs.InForce.{BoundChanges, bounds_on, tightened, after_change, from_ranges, in_force}
+use Rattle.bounded_simplex.specs.InForce.{BoundChanges, bounds_on, tightened, after_change, from_ranges}
 use Rattle.bounded_simplex.proofs.InBoxLaws.{one_of_both}
 
 small_after : (term : Term) (side : Side) (bound : ℤ) (changes : List Lit) (start : Option ℤ) → All (λ lit. IsSmall lit.bound) changes → ((end : ℤ) → start ≡ Some end → IsSmall end)

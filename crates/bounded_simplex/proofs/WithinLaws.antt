@@ -1,10 +1,9 @@
 -- Which columns an equation has entries for.
-use Rattle.std.proofs.Common.{◌≡◌, ◌≢◌, ℕ, ◌<◌, ◌≤◌, List, [], ◌∷◌, length, get_or, ℤ, pos, All, sym, ap, ◌∙◌, ⊎_elim, arith}
+use Rattle.std.proofs.Common.{◌≡◌, ◌≢◌, ℕ, ◌<◌, ◌≤◌, List, [], ◌∷◌, length, get_or, pos, All, sym, ap, ◌∙◌, ⊎_elim, arith}
 use Rattle.std.proofs.lemmas.Int.{ints}
 use Rattle.std.proofs.lemmas.Bool.{cases_lt}
 use Rattle.tableau_rows.specs.declared.entry.Entry.{Entry}
 use Rattle.tableau_rows.specs.declared.equation.Equation.{Equation}
-use Rattle.tableau_rows.specs.Equation.{coefficient}
 use Rattle.tableau_rows.specs.Substitution.{taken}
 use Rattle.bounded_simplex.specs.TableauOf.{AreWithin}
 use Rattle.tableau_rows.proofs.TotalLaws.{coefficient_at}

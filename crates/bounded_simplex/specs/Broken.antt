@@ -1,5 +1,5 @@
 -- A bound that the value of a basic column breaks.
-use Rattle.std.specs.Prelude.{◌≡◌, ℕ, ◌<◌, ℤ, Bool, cond, List, length, slice_index_or, Option, Some}
+use Rattle.std.specs.Prelude.{◌≡◌, ◌<◌, ℤ, Bool, cond, List, length, slice_index_or, Option, Some}
 use Rattle.wx_num.specs.declared.excess.NumOp.TheVariants.{Times}
 use Rattle.wx_num.specs.declared.excess.Excess.{Excess}
 use Rattle.mix_system.specs.declared.literal.Side.{Side}

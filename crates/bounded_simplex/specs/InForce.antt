@@ -1,5 +1,5 @@
 -- The bounds in force: those that the ranges and a list of changes give.
-use Rattle.std.specs.Prelude.{◌≡◌, ℕ, ◌+◌, ◌*◌, ◌<◌, Bool, true, false, ◌&&◌, cond, ℤ, pos, ◌<ℤ◌, int_lt, List, [], Option, None, Some, fold, slice_index_or}
+use Rattle.std.specs.Prelude.{ℕ, Bool, true, false, ◌&&◌, cond, ℤ, pos, ◌<ℤ◌, int_lt, List, Option, None, Some, fold, slice_index_or}
 use Rattle.mix_system.specs.declared.literal.Term.{Term}
 use Rattle.mix_system.specs.declared.literal.Term.TheVariants.{Var, Row}
 use Rattle.mix_system.specs.declared.literal.Side.{Side}

@@ -4,6 +4,7 @@ pub mod Broken
 pub mod Combination
 pub mod Event
 pub mod InForce
+pub mod Listing
 pub mod Pivot
 pub mod Point
 pub mod Refutation

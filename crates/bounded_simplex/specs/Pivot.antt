@@ -1,10 +1,9 @@
 -- A pivot: a column enters the basis in the place of another.
-use Rattle.std.specs.Prelude.{◌≡◌, ◌≢◌, ◌⊎◌, ◌↔◌, ℕ, ◌<◌, ℤ, pos, List, Option, None, Some, length, set, slice_index_or}
+use Rattle.std.specs.Prelude.{◌≡◌, ◌≢◌, ◌⊎◌, ℕ, ◌<◌, pos, List, Option, None, Some, length, set, slice_index_or}
 use Rattle.wx_num.specs.declared.excess.Excess.{Excess}
 use Rattle.wx_num.specs.Excess.{Overflows}
 use Rattle.tableau_rows.specs.declared.equation.Equation.{Equation}
 use Rattle.tableau_rows.specs.Substitution.{taken, IsMultiple, IsCombination, IsTurningStep, IsSubstitutionStep}
-use Rattle.bounded_simplex.specs.TableauOf.{AllHold}
 
 -- what a pivot makes of another equation
 pub record IsChanged (new row pivot : Equation) (entering : ℕ) : Type 0 where

@@ -24,8 +24,8 @@ AreInBounds bounds values =
     → Admits side (bound_on bounds column side) (pos 1) (number_at values column)
 
 -- no column has a lower bound in force above its upper one
-abbrev pub AreApart : BoundChanges → Type 0
-AreApart bounds = (column : ℕ) → column < columns_of bounds.system → ¬ Contradict (bound_on bounds column Ge) (bound_on bounds column Le)
+abbrev pub NoneContradict : BoundChanges → Type 0
+NoneContradict bounds = (column : ℕ) → column < columns_of bounds.system → ¬ Contradict (bound_on bounds column Ge) (bound_on bounds column Le)
 
 -- the numerator of an equation's basic column, where each other one has a value
 abbrev pub numerator_of : List ℤ → Equation → ℤ

@@ -1,9 +1,7 @@
 -- How the bounds in force are stored.
 use Rattle.std.specs.Prelude.{◌≡◌, ℕ, ◌+◌, ◌*◌, ◌<◌, ◌≤◌, ◌^◌, List, ℤ, length, map, take, Option, None, All, slice_index_or, vec_capacity}
 use Rattle.mix_system.specs.declared.literal.Term.{Term}
-use Rattle.mix_system.specs.declared.literal.Term.TheVariants.{Var, Row}
 use Rattle.mix_system.specs.declared.literal.Side.{Side}
-use Rattle.mix_system.specs.declared.literal.Side.TheVariants.{Le, Ge}
 use Rattle.mix_system.specs.declared.literal.Lit.{Lit}
 use Rattle.mix_system.specs.System.{System, Exists}
 use Rattle.bounded_simplex.specs.BoundPlaces.{place_of}

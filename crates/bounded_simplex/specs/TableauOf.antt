@@ -2,7 +2,6 @@
 use Rattle.std.specs.Prelude.{◌≡◌, ◌≢◌, ◌↔◌, ℕ, ◌+◌, ◌<◌, ◌≤◌, ℤ, pos, negsuc, ◌*ℤ◌, List, [], ◌∷◌, ◌++◌, length, map, slice_index_or, All}
 use Rattle.mix_system.specs.declared.literal.Term.{Term}
 use Rattle.mix_system.specs.declared.literal.Term.TheVariants.{Var, Row}
-use Rattle.mix_system.specs.declared.row.Part.{Part}
 use Rattle.mix_system.specs.Sum.{int_sum_by}
 use Rattle.mix_system.specs.System.{System}
 use Rattle.tableau_rows.specs.declared.equation.Equation.{Equation}

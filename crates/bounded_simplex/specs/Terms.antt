@@ -1,5 +1,5 @@
 -- Columns as terms, and what a term takes of a variable.
-use Rattle.std.specs.Prelude.{ℕ, ◌-◌, nat_lt, cond, ℤ, ◌*ℤ◌, List, length}
+use Rattle.std.specs.Prelude.{ℕ, ◌-◌, nat_lt, cond, ℤ, length}
 use Rattle.mix_system.specs.declared.literal.Term.{Term}
 use Rattle.mix_system.specs.declared.literal.Term.TheVariants.{Var, Row}
 use Rattle.mix_system.specs.Sum.{int_sum_by}

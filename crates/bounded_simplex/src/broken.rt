@@ -8,7 +8,8 @@ ghost use Rattle.bounded_simplex.specs.Point.{Admits, Keeps as KeepsBound};
 ghost use Rattle.bounded_simplex.specs.Refutation.{columns_of, bound_on};
 ghost use Rattle.bounded_simplex.specs.TableauOf.{AreWithin};
 
-use crate::{Bounds, Place, TableauExcess};
+use crate::fault::Fault;
+use crate::{Bounds, Place};
 use mix_system::Side;
 use tableau_rows::Equation;
 use wx_num::{Excess, Num};
@@ -27,7 +28,7 @@ pub(crate) fn first_broken(
     bounds: &Bounds<'_>,
     rows: &[Equation],
     values: &[i128],
-) -> Result<Option<Broken>, TableauExcess>
+) -> Result<Option<Broken>, Fault>
     requires known { AreWithin (columns_of bounds.now.system) rows.now }
     requires values { length values.now ≡ columns_of bounds.now.system }
     ensures none { IfOk result (λ found. IfNone found
@@ -73,7 +74,7 @@ fn broken_at(
     rows: &[Equation],
     values: &[i128],
     at: usize,
-) -> Result<Option<Broken>, TableauExcess>
+) -> Result<Option<Broken>, Fault>
     requires known { AreWithin (columns_of bounds.now.system) rows.now }
     requires values { length values.now ≡ columns_of bounds.now.system }
     requires at { at < length rows.now }
@@ -102,7 +103,7 @@ fn broken_side(
     bounds: &Bounds<'_>,
     values: &[i128],
     equation: &Equation,
-) -> Result<Option<Side>, TableauExcess>
+) -> Result<Option<Side>, Fault>
     requires known { All
         (λ entry. entry.column < columns_of bounds.now.system) equation.now.entries.items }
     requires basic { equation.now.basic < columns_of bounds.now.system }
@@ -126,7 +127,7 @@ fn broken_side(
         Ok(numerator) => numerator,
         Err(excess) => {
             let place = Place::Value { basic };
-            return Err(TableauExcess { place, excess });
+            return Err(Fault { place, excess });
         }
     };
     let denominator = equation.denominator;
@@ -135,7 +136,7 @@ fn broken_side(
         Err(excess) => {
             let bound = excess.y;
             let place = Place::Compare { basic, bound };
-            Err(TableauExcess { place, excess })
+            Err(Fault { place, excess })
         }
     }
 }

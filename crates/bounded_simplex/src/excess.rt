@@ -1,5 +1,5 @@
-use mix_system::Term;
-use wx_num::Excess;
+use mix_system::{Numbers, Term, Terms};
+use wx_num::NumOp;
 
 /// The place of a tableau that forms a number, by the terms of its equations.
 #[derive(Clone, Copy, Debug, PartialEq, Eq)]
@@ -26,9 +26,14 @@ pub enum Place {
     },
 }
 
-/// Two numbers that a tableau forms, and whose result leaves 128 bits.
-#[derive(Clone, Copy, Debug, PartialEq, Eq)]
+/// Two numbers that a tableau forms, and whose operation leaves 128 bits: the basis of the tableau
+/// in any order, the values of all other terms in the order of terms, and the place that forms them.
+#[derive(Debug, Drop)]
 pub struct TableauExcess {
+    pub basis: Terms,
+    pub rest: Numbers,
     pub place: Place,
-    pub excess: Excess,
+    pub op: NumOp,
+    pub x: i128,
+    pub y: i128,
 }

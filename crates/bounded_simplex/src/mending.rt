@@ -1,84 +1,55 @@
 ghost use Rattle.std.specs.Prelude.{◌≡◌, ◌≢◌, ◌⊎◌, ◌↔◌, ◌+◌, ◌<◌, ◌≤◌, ◌^◌, pos, true, false, length, All, slice_index_or, IfOk, IfErr, IfSome, IfNone, OnOk, OnErr};
 ghost use Rattle.mix_system.specs.Row.{number_at};
-ghost use Rattle.mix_system.specs.Tally.{units, CountsOne, pivot_bound};
+ghost use Rattle.mix_system.specs.Tally.{pivot_bound};
 ghost use Rattle.tableau_rows.specs.Substitution.{taken};
 ghost use Rattle.tableau_rows.specs.declared.equation.Equation.{Equation as AnEquation};
-ghost use Rattle.bounded_simplex.specs.Answer.{Answers, IsSpent, is_point};
+ghost use Rattle.bounded_simplex.specs.Answer.{Mends};
 ghost use Rattle.bounded_simplex.specs.Broken.{IsBroken, side_of};
-ghost use Rattle.bounded_simplex.specs.Event.{IsEvent, IsOfBounded};
-ghost use Rattle.bounded_simplex.specs.Point.{AreApart, AreInBounds};
+ghost use Rattle.bounded_simplex.specs.Event.{IsFault, IsOfBounded};
+ghost use Rattle.bounded_simplex.specs.Point.{NoneContradict, AreInBounds};
 ghost use Rattle.bounded_simplex.specs.Refutation.{columns_of, IsHindered};
 
 use crate::broken::{Broken, first_broken};
 use crate::entering::entering;
-use crate::refutation::first_contradiction;
+use crate::fault::Fault;
+use crate::mended::Mended;
 use crate::settle::{put_at_bound, settle};
-use crate::{Check, PivotExcess, Place, Simplex, Tableau, TableauExcess, refute};
-use mix_system::{Side, Tally, Work};
+use crate::{PivotExcess, Place, Simplex, Tableau, refute};
+use mix_system::Side;
 use std::alloc::Global;
 use wx_base::NoMemory;
 
 impl Simplex<'_> {
-    /// Looks for a rational point inside all bounds in force, by pivots; it counts one check.
-    /// The bounds and their changes stay as they are.
-    ///
-    /// `Spent` comes exactly where the budget was spent before. After `NoMemory` the simplex is one
-    /// of the same system and bounds.
-    pub fn check(&mut self, alloc: Global, tally: &mut Tally) -> Result<Check, NoMemory>
-        ensures bounds { self.new.bounds ≡ self.old.bounds }
-        ensures answer { IfOk result
-            (Answers self.new.bounds self.new.tableau.rows.items self.new.values.items
-            self.new.made) }
-        ensures made { self.new.made ≤ pivot_bound self.new.bounds.system }
-        ensures point { IfOk result (λ check. self.new.has_point ≡ is_point check) }
-        ensures spent { IfOk result (λ check. IsSpent check
-            ↔ (units tally.old ≡ tally.old.budget)) }
-        ensures counted { units tally.old ≢ tally.old.budget
-            → CountsOne Work.Check tally.old tally.new }
-        ensures unchanged { units tally.old ≡ tally.old.budget → tally.new ≡ tally.old }
-    {
-        self.made = 0;
-        self.has_point = false;
-        if !tally.tick(Work::Check) {
-            return Ok(Check::Spent);
-        }
-        if let Some(farkas) = first_contradiction(alloc, &self.bounds)? {
-            return Ok(Check::Refuted(farkas));
-        }
-        settle(&self.bounds, &mut self.values);
-        self.mend(alloc)
-    }
-
-    // Mends broken basic columns by pivots. Where a number leaves 128 bits it begins once more, from
-    // the first basis.
-    fn mend(&mut self, alloc: Global) -> Result<Check, NoMemory>
-        requires apart { AreApart self.old.bounds }
+    // Mends broken basic columns by pivots. Where a number leaves 128 bits it begins once more,
+    // from the first basis.
+    pub(crate) fn mend(&mut self, alloc: Global) -> Result<Mended, NoMemory>
+        requires apart { NoneContradict self.old.bounds }
         requires in_bounds { AreInBounds self.old.bounds self.old.values.items }
         requires none_made { self.old.made ≡ 0 }
         requires no_point { self.old.has_point ≡ false }
         ensures bounds { self.new.bounds ≡ self.old.bounds }
         ensures answer { IfOk result
-            (Answers self.new.bounds self.new.tableau.rows.items self.new.values.items
+            (Mends self.new.bounds self.new.tableau.rows.items self.new.values.items
             self.new.made) }
         ensures made { self.new.made ≤ pivot_bound self.new.bounds.system }
-        ensures point { IfOk result (λ check. self.new.has_point ≡ is_point check) }
-        ensures not_spent { IfOk result (λ check. ¬ IsSpent check) }
+        ensures no_point { self.new.has_point ≡ false }
     {
         match self.pivots(alloc)? {
-            Check::Excess(_) => {
+            Mended::Excess(_) => {
                 self.start_anew(alloc)?;
                 self.pivots(alloc)
             }
-            check => Ok(check),
+            mended => Ok(mended),
         }
     }
 
     // Makes the basis the rows again. The bounds and the count of pivots stay.
     fn start_anew(&mut self, alloc: Global) -> Result<(), NoMemory>
-        requires apart { AreApart self.old.bounds }
+        requires apart { NoneContradict self.old.bounds }
+        requires no_point { self.old.has_point ≡ false }
         ensures bounds { self.new.bounds ≡ self.old.bounds }
         ensures made { self.new.made ≡ self.old.made }
-        ensures has_point { self.new.has_point ≡ self.old.has_point }
+        ensures no_point { self.new.has_point ≡ false }
         ensures in_bounds { OnOk result (AreInBounds self.new.bounds self.new.values.items) }
     {
         self.tableau = Tableau::new(alloc, self.bounds.system())?;
@@ -87,38 +58,34 @@ impl Simplex<'_> {
     }
 
     // Pivots until no basic column is broken, the least column first.
-    fn pivots(&mut self, alloc: Global) -> Result<Check, NoMemory>
+    fn pivots(&mut self, alloc: Global) -> Result<Mended, NoMemory>
         requires in_bounds { AreInBounds self.old.bounds self.old.values.items }
         requires made { self.old.made ≤ pivot_bound self.old.bounds.system }
         requires no_point { self.old.has_point ≡ false }
         ensures bounds { self.new.bounds ≡ self.old.bounds }
         ensures answer { IfOk result
-            (Answers self.new.bounds self.new.tableau.rows.items self.new.values.items
+            (Mends self.new.bounds self.new.tableau.rows.items self.new.values.items
             self.new.made) }
         ensures made { self.new.made ≤ pivot_bound self.new.bounds.system }
-        ensures point { IfOk result (λ check. self.new.has_point ≡ is_point check) }
-        ensures not_spent { IfOk result (λ check. ¬ IsSpent check) }
+        ensures no_point { self.new.has_point ≡ false }
     {
         let most = 16 * u64::from(self.bounds.columns());
         loop {
             let broken = match first_broken(&self.bounds, &self.tableau.rows, &self.values) {
                 Ok(Some(broken)) => broken,
-                Ok(None) => {
-                    self.has_point = true;
-                    return Ok(Check::Point);
-                }
-                Err(fault) => return Ok(Check::Excess(fault)),
+                Ok(None) => return Ok(Mended::Point),
+                Err(fault) => return Ok(Mended::Excess(fault)),
             };
             let upwards = is_below(broken.side);
             let Some(column) = self.entering_for(broken, upwards) else {
                 return self.refuted(alloc, broken, upwards);
             };
             if self.made >= most {
-                return Ok(Check::Paused);
+                return Ok(Mended::Paused);
             }
             match self.exchange(alloc, broken, column)? {
                 Ok(()) => {}
-                Err(fault) => return Ok(Check::Excess(fault)),
+                Err(fault) => return Ok(Mended::Excess(fault)),
             }
         }
     }
@@ -141,7 +108,7 @@ impl Simplex<'_> {
     }
 
     // The refutation by a broken equation of which no column can move.
-    fn refuted(&self, alloc: Global, broken: Broken, upwards: bool) -> Result<Check, NoMemory>
+    fn refuted(&self, alloc: Global, broken: Broken, upwards: bool) -> Result<Mended, NoMemory>
         requires broken { IsBroken self.now.bounds self.now.tableau.rows.items
             self.now.values.items broken }
         requires upwards { broken.side ≡ side_of upwards }
@@ -151,20 +118,18 @@ impl Simplex<'_> {
             ⊎ IsHindered self.now.bounds upwards (number_at self.now.values.items) entry)
             (slice_index_or self.now.tableau.rows.items broken.at d).entries.items }
         ensures answer { IfOk result
-            (Answers self.now.bounds self.now.tableau.rows.items self.now.values.items
+            (Mends self.now.bounds self.now.tableau.rows.items self.now.values.items
             self.now.made) }
-        ensures no_point { IfOk result (λ check. is_point check ≡ false) }
-        ensures not_spent { IfOk result (λ check. ¬ IsSpent check) }
     {
         let equation = &self.tableau.rows[broken.at];
         let basic = self.bounds.term_at(equation.basic);
         match refute(alloc, &self.bounds, equation, upwards)? {
-            Ok(Some(farkas)) => Ok(Check::Refuted(farkas)),
+            Ok(Some(farkas)) => Ok(Mended::Refuted(farkas)),
             // There is one, as each column stands at its bound.
-            Ok(None) => Ok(Check::Paused),
+            Ok(None) => Ok(Mended::Paused),
             Err(excess) => {
                 let place = Place::Combine { basic };
-                Ok(Check::Excess(TableauExcess { place, excess }))
+                Ok(Mended::Excess(Fault { place, excess }))
             }
         }
     }
@@ -176,7 +141,7 @@ impl Simplex<'_> {
         alloc: Global,
         broken: Broken,
         column: u32,
-    ) -> Result<Result<(), TableauExcess>, NoMemory>
+    ) -> Result<Result<(), Fault>, NoMemory>
         requires broken { IsBroken self.old.bounds self.old.tableau.rows.items
             self.old.values.items broken }
         requires in_bounds { AreInBounds self.old.bounds self.old.values.items }
@@ -184,16 +149,17 @@ impl Simplex<'_> {
             → taken (slice_index_or self.old.tableau.rows.items broken.at d) column ≢ pos 0 }
         requires enters { (d : AnEquation)
             → (slice_index_or self.old.tableau.rows.items broken.at d).basic ≢ column }
+        requires no_point { self.old.has_point ≡ false }
         requires few_made { self.old.made + 1 < 2 ^ 64 }
         ensures bounds { self.new.bounds ≡ self.old.bounds }
-        ensures has_point { self.new.has_point ≡ self.old.has_point }
+        ensures no_point { self.new.has_point ≡ false }
         ensures in_bounds { IfOk result
             (λ found. OnOk found (AreInBounds self.new.bounds self.new.values.items)) }
         ensures made { IfOk result (λ found. OnOk found (self.new.made ≡ self.old.made + 1)) }
         ensures not_made { IfOk result (λ found. OnErr found (self.new.made ≡ self.old.made)) }
         ensures no_memory { OnErr result (self.new.made ≡ self.old.made) }
         ensures excess { IfOk result (λ found. IfErr found
-            (IsEvent self.new.bounds self.new.tableau.rows.items self.new.values.items)) }
+            (IsFault self.new.bounds self.new.tableau.rows.items self.new.values.items)) }
         ensures bounded { IfOk result (λ found. IfErr found
             (λ fault. IsOfBounded self.new.bounds fault.place)) }
     {
@@ -213,7 +179,7 @@ impl Simplex<'_> {
                     entering,
                     changed,
                 };
-                Ok(Err(TableauExcess { place, excess }))
+                Ok(Err(Fault { place, excess }))
             }
         }
     }

@@ -3,7 +3,7 @@ ghost use Rattle.wx_num.specs.Excess.{Overflows};
 ghost use Rattle.mix_system.specs.System.{Exists};
 ghost use Rattle.bounded_simplex.specs.Combination.{basic_entry, in_order, AreWorked, IsPut, IsPutStep, IsCombineStep, IsRefutation};
 ghost use Rattle.tableau_rows.specs.Equation.{total};
-ghost use Rattle.bounded_simplex.specs.Point.{AreApart};
+ghost use Rattle.bounded_simplex.specs.Point.{NoneContradict};
 ghost use Rattle.bounded_simplex.specs.InForce.{in_force, Contradict};
 ghost use Rattle.bounded_simplex.specs.Terms.{times_in_column};
 ghost use Rattle.tableau_rows.specs.Turning.{turned_number};
@@ -161,7 +161,7 @@ pub fn contradiction(
 pub fn first_contradiction(alloc: Global, bounds: &Bounds<'_>) -> Result<Option<Farkas>, NoMemory>
     ensures refutation { IfOk result (λ found. IfSome found
         (λ f. IsRefutation bounds.now f.parts)) }
-    ensures none { IfOk result (λ found. IfNone found (AreApart bounds.now)) }
+    ensures none { IfOk result (λ found. IfNone found (NoneContradict bounds.now)) }
 {
     for column in 0..bounds.columns() {
         match contradiction(alloc, bounds, bounds.term_at(column))? {

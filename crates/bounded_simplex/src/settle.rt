@@ -1,7 +1,7 @@
 ghost use Rattle.std.specs.Prelude.{◌≡◌, ◌<◌, ◌⊎◌, ◌≤ℤ◌, pos, length};
 ghost use Rattle.mix_system.specs.declared.literal.Side.TheVariants.{Le, Ge};
 ghost use Rattle.bounded_simplex.specs.InForce.{Contradict};
-ghost use Rattle.bounded_simplex.specs.Point.{Admits, AreApart, AreInBounds};
+ghost use Rattle.bounded_simplex.specs.Point.{Admits, NoneContradict, AreInBounds};
 ghost use Rattle.bounded_simplex.specs.Refutation.{columns_of, bound_on};
 ghost use Rattle.bounded_simplex.specs.Settled.{at_bound};
 
@@ -10,7 +10,7 @@ use crate::Bounds;
 /// Moves the value of each column to the nearer one of its bounds in force, where it lies outside.
 pub(crate) fn settle(bounds: &Bounds<'_>, values: &mut Vec<i128>)
     requires count { length values.old.items ≡ columns_of bounds.now.system }
-    requires apart { AreApart bounds.now }
+    requires apart { NoneContradict bounds.now }
     ensures in_bounds { AreInBounds bounds.now values.new.items }
     ensures as_many { length values.new.items ≡ length values.old.items }
 {

@@ -1,13 +1,14 @@
-ghost use Rattle.std.specs.Prelude.{◌≡◌, ◌≢◌, ◌↔◌, ℕ, ◌+◌, ◌<◌, ◌≤◌, ℤ, pos, false, [], ◌∷◌, ◌++◌, length, take, All, slice_index_or, Option, IfOk, IfErr, IfSome, IfNone, OnOk, OnErr};
+ghost use Rattle.std.specs.Prelude.{◌≡◌, ◌≢◌, ◌↔◌, ℕ, ◌+◌, ◌<◌, ◌≤◌, ℤ, pos, true, false, [], ◌∷◌, ◌++◌, length, take, All, slice_index_or, Option, IfOk, IfErr, IfSome, IfNone, OnOk, OnErr};
 ghost use Rattle.mix_system.specs.Row.{number_at};
 ghost use Rattle.mix_system.specs.System.{Exists};
 ghost use Rattle.bounded_simplex.specs.InForce.{in_force, Contradict};
+ghost use Rattle.bounded_simplex.specs.Listing.{IsListed, ArePlaced};
 ghost use Rattle.bounded_simplex.specs.Refutation.{columns_of, bound_on};
 ghost use Rattle.tableau_rows.specs.declared.equation.Equation.{Equation as AnEquation};
 ghost use Rattle.bounded_simplex.specs.Settled.{AreLow};
 ghost use Rattle.bounded_simplex.specs.TableauOf.{TableauOf, IsOfRow};
 
-use crate::{Bounds, Mark, Tableau};
+use crate::{Bounds, Listing, Mark, Tableau};
 use mix_system::{Lit, Side, System, Term};
 use std::alloc::Global;
 use wx_base::NoMemory;
@@ -20,12 +21,19 @@ pub struct Simplex<'a> {
     pub bounds: Bounds<'a>,
     pub tableau: Tableau,
     pub values: Vec<i128>,
+    /// Its basis and the values outside it, as they stood after the last check.
+    pub listing: Listing,
     /// The pivots of the last check, 0 before the first.
     pub made: u64,
     /// Whether the last check kept a point and no bound was put or given back since.
     pub has_point: bool,
     pub ghost tableau_of: { TableauOf bounds.system tableau.rows.items },
     pub ghost one_each: { length values.items ≡ columns_of bounds.system },
+    pub ghost listed: { has_point ≡ true → IsListed bounds.system tableau.rows.items values.items
+        listing.basis.items listing.rest.items },
+    pub ghost places: { has_point ≡ true
+        → length listing.places.items ≡ columns_of bounds.system },
+    pub ghost placed: { has_point ≡ true → ArePlaced tableau.rows.items listing.places.items },
 }
 
 impl<'a> Simplex<'a> {
@@ -41,14 +49,20 @@ impl<'a> Simplex<'a> {
             → k < length simplex.tableau.rows.items
             → IsOfRow system.entry.now k (slice_index_or simplex.tableau.rows.items k d)) }
         ensures values { IfOk result (λ simplex. AreLow system.entry.now simplex.values.items) }
+        ensures listed { IfOk result (λ simplex. IsListed system.entry.now
+            simplex.tableau.rows.items simplex.values.items
+            simplex.listing.basis.items simplex.listing.rest.items) }
     {
         let bounds = Bounds::new(alloc, system, room)?;
         let tableau = Tableau::new(alloc, system)?;
         let values = first_values(alloc, system)?;
+        let mut listing = Listing::new(alloc);
+        listing.list(&bounds, &tableau.rows, &values)?;
         Ok(Simplex {
             bounds,
             tableau,
             values,
+            listing,
             made: 0,
             has_point: false,
         })
@@ -82,6 +96,7 @@ impl<'a> Simplex<'a> {
             (in_force self.new.bounds lit.now.term Side.Le) }
         ensures tableau { self.new.tableau ≡ self.old.tableau }
         ensures values { self.new.values.items ≡ self.old.values.items }
+        ensures listing { self.new.listing ≡ self.old.listing }
         ensures made { self.new.made ≡ self.old.made }
         ensures no_point { self.new.has_point ≡ false }
     {
@@ -104,11 +119,26 @@ impl<'a> Simplex<'a> {
             ≡ record self.old.bounds { changes = take mark.changes self.old.bounds.changes } }
         ensures tableau { self.new.tableau ≡ self.old.tableau }
         ensures values { self.new.values.items ≡ self.old.values.items }
+        ensures listing { self.new.listing ≡ self.old.listing }
         ensures made { self.new.made ≡ self.old.made }
         ensures no_point { self.new.has_point ≡ false }
     {
         self.has_point = false;
         self.bounds.back_to(mark);
+    }
+
+    /// The terms of the basis, in any order, as the last check left it.
+    pub fn basis(&self) -> &[Term]
+        ensures { result.now ≡ self.now.listing.basis.items }
+    {
+        &self.listing.basis
+    }
+
+    /// The values of all other terms, in the order of terms, as the last check left them.
+    pub fn rest(&self) -> &[i128]
+        ensures { result.now ≡ self.now.listing.rest.items }
+    {
+        &self.listing.rest
     }
 
     /// The lower bound in force, `None` where the term has none.

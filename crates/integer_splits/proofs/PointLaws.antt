@@ -21,7 +21,7 @@ use Rattle.tableau_rows.specs.declared.equation.Equation.{Equation}
 use Rattle.tableau_rows.proofs.RingLaws.{mul-add, mul_assoc, mul_comm}
 use Rattle.bounded_simplex.specs.Combination.{IsCalmBox}
 use Rattle.bounded_simplex.specs.InForce.{BoundChanges, after_change, from_ranges, in_force, Contradict}
-use Rattle.bounded_simplex.specs.Point.{Admits, AreApart, IsPoint}
+use Rattle.bounded_simplex.specs.Point.{Admits, NoneContradict, IsPoint}
 use Rattle.bounded_simplex.specs.Refutation.{bound_on}
 use Rattle.bounded_simplex.specs.Sums.{IsFixedAt, KeepsSum}
 use Rattle.bounded_simplex.proofs.CoefficientLaws.{term_of_var, term_of_row}
@@ -74,7 +74,7 @@ whole_inside bounds rows values point formed kept count whole = record {
         (keeps side (length bounds.system.ranges + row) (row_value parts point) (omega (arith, exists)) sum)
 
 -- a box in which no range has two numbers, no bounds contradict each other, and the sums of the rows keep theirs
-module _ (bounds : BoundChanges) (point : List ℤ) (narrow : AreNarrow bounds) (apart : AreApart bounds)
+module _ (bounds : BoundChanges) (point : List ℤ) (narrow : AreNarrow bounds) (apart : NoneContradict bounds)
     (low : (var : ℕ) → var < length bounds.system.ranges → in_force bounds (Var var) Ge ≡ Some (number_at point var)) where
   fixed : IsFixedAt bounds point
   fixed var Ge within = low var within

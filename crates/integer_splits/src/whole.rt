@@ -19,7 +19,7 @@ pub(crate) fn whole_point(alloc: Global, simplex: &Simplex<'_>) -> Result<Option
 {
     let mut point = Numbers::new(alloc);
     for var in 0..simplex.system().vars() {
-        match whole_value(simplex, var) {
+        match whole_value(alloc, simplex, var)? {
             Some(value) => point.push(value)?,
             None => return Ok(None),
         }
@@ -29,35 +29,35 @@ pub(crate) fn whole_point(alloc: Global, simplex: &Simplex<'_>) -> Result<Option
 
 /// Among the variables whose value isn't whole, or can't be formed, the halving of the smallest
 /// range in force.
-pub(crate) fn fractional(simplex: &Simplex<'_>) -> Option<Halving>
+pub(crate) fn fractional(alloc: Global, simplex: &Simplex<'_>) -> Result<Option<Halving>, NoMemory>
     requires point { simplex.now.has_point ≡ true }
     requires small { AreSmall simplex.now.bounds }
-    ensures { IfSome result (λ h. IsHalving simplex.now.bounds h.var h.at) }
+    ensures { IfOk result (λ found. IfSome found
+        (λ h. IsHalving simplex.now.bounds h.var h.at)) }
 {
     let mut narrowest = None;
     for var in 0..simplex.system().vars() {
-        if whole_value(simplex, var).is_some() {
+        if whole_value(alloc, simplex, var)?.is_some() {
             continue;
         }
         narrowest = narrower(narrowest, halving_of(simplex, var));
     }
-    narrowest
+    Ok(narrowest)
 }
 
 // The value of a variable at the kept point, where it is whole.
-fn whole_value(simplex: &Simplex<'_>, var: u32) -> Option<i128>
+fn whole_value(alloc: Global, simplex: &Simplex<'_>, var: u32) -> Result<Option<i128>, NoMemory>
     requires within { var < length simplex.now.bounds.system.ranges }
     requires point { simplex.now.has_point ≡ true }
-    ensures { IfSome result (IsValueOf simplex.now.bounds simplex.now.tableau.rows.items
-        simplex.now.values.items var) }
+    ensures { IfOk result (λ found. IfSome found
+        (IsValueOf simplex.now.bounds simplex.now.tableau.rows.items
+        simplex.now.values.items var)) }
 {
-    match simplex.value(Term::Var(var)) {
-        Ok(ratio) => {
-            if ratio.den != 1 {
-                return None;
-            }
-            Some(ratio.num)
-        }
-        Err(_) => None,
+    let Ok(ratio) = simplex.value(alloc, Term::Var(var))? else {
+        return Ok(None);
+    };
+    if ratio.den != 1 {
+        return Ok(None);
     }
+    Ok(Some(ratio.num))
 }

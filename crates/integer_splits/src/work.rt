@@ -61,7 +61,7 @@ fn at_point(alloc: Global, simplex: &Simplex<'_>) -> Result<Worked, NoMemory>
     if let Some(point) = whole_point(alloc, simplex)? {
         return Ok(Worked::Point(point));
     }
-    if let Some(halving) = fractional(simplex) {
+    if let Some(halving) = fractional(alloc, simplex)? {
         return Ok(Worked::Halve(halving));
     }
     without_point(alloc, simplex)

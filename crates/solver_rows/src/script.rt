@@ -1,13 +1,14 @@
 use crate::literals::{lits_of, push};
 use crate::systems::{exists, no_call};
-use bounded_simplex::{Check, Mark, Simplex};
+use bounded_simplex::{Check, Mark, Simplex, TableauExcess};
 use mix_system::{Farkas, Lit, System, Tally};
 use std::alloc::Global;
 use wx_base::NoMemory;
+use wx_num::Excess;
 
 // `check BUDGET ROOM WORD ..` over a simplex of the system, which lasts for the row. A literal is put to
-// the bounds, `?` is a check, `back` gives all bounds back, and `all` shows each column: its bounds, and its
-// value where there is a point.
+// the bounds, `?` is a check, `back2` gives all but the first two changes back and `back` all, `made` shows
+// the pivots of the last check, and `all` each column too: its bounds, and its value where there is a point.
 pub fn answer(alloc: Global, system: &System, call: &str) -> Result<String, NoMemory> {
     let (budget, rest) = call.split_once(' ').unwrap_or((call, ""));
     let (room, words) = rest.split_once(' ').unwrap_or((rest, ""));
@@ -33,15 +34,23 @@ fn step(
     match word {
         "?" => checked(alloc, &simplex.check(alloc, tally)?),
         "all" => columns(alloc, simplex),
-        "back" => {
-            simplex.back_to(Mark { changes: 0 });
-            Ok(String::from_str(alloc, "back; ")?)
-        }
+        "made" => Ok(format!(in alloc; "{} pivots; ", simplex.made)?),
         _ => {
+            if let Some(changes) = word.strip_prefix("back") {
+                return back(alloc, simplex, changes.parse::<u32>().unwrap_or(0));
+            }
             put_all(simplex, lits_of(alloc, word)?.items());
             Ok(String::new(alloc))
         }
     }
+}
+
+fn back(alloc: Global, simplex: &mut Simplex<'_>, changes: u32) -> Result<String, NoMemory> {
+    if simplex.mark().changes < changes {
+        return no_call(alloc);
+    }
+    simplex.back_to(Mark { changes });
+    Ok(String::from_str(alloc, "back; ")?)
 }
 
 fn checked(alloc: Global, check: &Check) -> Result<String, NoMemory> {
@@ -50,8 +59,18 @@ fn checked(alloc: Global, check: &Check) -> Result<String, NoMemory> {
         Check::Refuted(farkas) => refuted(alloc, farkas)?,
         Check::Paused => String::from_str(alloc, "paused; ")?,
         Check::Spent => String::from_str(alloc, "spent; ")?,
-        Check::Excess(fault) => format!(in alloc; "{:?}, {}; ", fault.place, fault.excess)?,
+        Check::Excess(excess) => exceeded(alloc, excess)?,
     })
+}
+
+// The place and the two numbers.
+fn exceeded(alloc: Global, excess: &TableauExcess) -> Result<String, NoMemory> {
+    let numbers = Excess {
+        op: excess.op,
+        x: excess.x,
+        y: excess.y,
+    };
+    Ok(format!(in alloc; "{:?}, {}; ", excess.place, numbers)?)
 }
 
 // Each bound with its multiplier.
@@ -81,7 +100,7 @@ fn columns(alloc: Global, simplex: &Simplex<'_>) -> Result<String, NoMemory> {
         let (low, high) = (simplex.low(term), simplex.high(term));
         line.push_str(format!(in alloc; ", {low:?} {high:?}")?.as_str())?;
         if simplex.has_point {
-            let value = simplex.value(term);
+            let value = simplex.value(alloc, term)?;
             line.push_str(format!(in alloc; " at {value:?}")?.as_str())?;
         }
     }

@@ -1,4 +1,4 @@
-ghost use Rattle.std.specs.Prelude.{◌≡◌, length, IsTrue, IfSome};
+ghost use Rattle.std.specs.Prelude.{◌≡◌, ◌<◌, length, AllPairs, IsTrue, IfSome};
 ghost use Rattle.mix_system.specs.System.{Exists, IsInner, IsRange, IsRow, IsClause};
 
 use crate::literals::lits_of;
@@ -7,7 +7,7 @@ use std::alloc::Global;
 use wx_base::NoMemory;
 
 // A system of rows has few of everything.
-const MOST: u32 = 1000;
+const MOST: u32 = 10_000;
 
 pub fn answer(
     alloc: Global,
@@ -75,17 +75,21 @@ fn parts_of(alloc: Global, call: &str) -> Result<Vec<Part>, NoMemory> {
     Ok(parts)
 }
 
-// Rows here have at most two parts.
 fn is_row(vars: u32, parts: &[Part]) -> bool
     ensures { IsTrue result → IsRow vars parts.now }
 {
+    parts.iter().all(|part| part.var < vars && part.coeff != 0) && are_rising(parts)
+}
+
+#[tactic(auto, using(crate::proofs::RiseLaws::rise_none, crate::proofs::RiseLaws::rise_more))]
+fn are_rising(parts: &[Part]) -> bool
+    ensures { IsTrue result → AllPairs (λ part later. part.var < later.var) parts.now }
+{
     match parts {
         [] => true,
-        [one] => one.var < vars && one.coeff != 0,
-        [one, other] => {
-            other.var < vars && one.var < other.var && one.coeff != 0 && other.coeff != 0
+        [first, later @ ..] => {
+            later.iter().all(|part| first.var < part.var) && are_rising(later)
         }
-        _ => false,
     }
 }
 

@@ -1,4 +1,4 @@
-use Rattle.std.proofs.Common.{◌≡◌, pos, sym, ap, subst, ◌∙◌}
+use Rattle.std.proofs.Common.{◌≡◌, pos, sym, ap, subst}
 use Rattle.tableau_rows.specs.declared.equation.Equation.{Equation}
 use Rattle.tableau_rows.specs.Substitution.{taken}
 use Rattle.bounded_simplex.specs.Event.{IsFormedAt}

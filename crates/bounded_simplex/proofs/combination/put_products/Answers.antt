@@ -1,10 +1,9 @@
-use Rattle.std.proofs.Common.{◌≡◌, ◌⊎◌, ℕ, ◌<◌, ◌+◌, ◌≤◌, [], ◌∷◌, length, get_or, take, pos, ◌+ℤ◌, ◌*ℤ◌, FitsSigned, All, sym, ap, subst, ◌∙◌, rules, arith}
+use Rattle.std.proofs.Common.{◌≡◌, ◌⊎◌, ℕ, ◌+◌, [], ◌∷◌, get_or, take, pos, ◌+ℤ◌, ◌*ℤ◌, FitsSigned, All, sym, ap, subst, ◌∙◌, rules}
 use Rattle.std.specs.Int.{w128}
 use Rattle.std.proofs.lemmas.Int.{to_z-of_z}
 use Rattle.std.proofs.lemmas.List.{take_all}
 use Rattle.std.proofs.lemmas.List.Elements.{All-append}
 use Rattle.wx_num.specs.declared.excess.NumOp.TheVariants.{Times}
-use Rattle.wx_num.specs.declared.excess.Excess.{Excess}
 use Rattle.mix_system.specs.declared.row.Part.{Part}
 use Rattle.mix_system.specs.Row.{number_at}
 use Rattle.mix_system.specs.Sum.{int_sum_by}

@@ -1,15 +1,13 @@
-use Rattle.std.proofs.Common.{◌≡◌, ◌⊎◌, ℕ, [], ◌∷◌, get_or, pos, ◌+ℤ◌, ◌*ℤ◌, FitsSigned, All, sym, ap, subst, ◌∙◌, rules}
+use Rattle.std.proofs.Common.{◌≡◌, ℕ, [], ◌+ℤ◌, ◌*ℤ◌, FitsSigned, All, sym, ap, subst, ◌∙◌, rules}
 use Rattle.std.specs.Prelude.{OnOk, IfErr}
 use Rattle.std.specs.Int.{w128}
 use Rattle.std.proofs.lemmas.Int.{to_z-of_z}
 use Rattle.std.proofs.lemmas.Option.{get_or_from_slice_get}
-use Rattle.wx_num.specs.declared.excess.NumOp.TheVariants.{Times}
 use Rattle.wx_num.specs.declared.excess.Excess.{Excess}
-use Rattle.mix_system.specs.declared.row.Part.{Part}
 use Rattle.mix_system.specs.System.{System}
 use Rattle.mix_system.specs.Row.{number_at}
 use Rattle.mix_system.specs.Sum.{int_sum_by}
-use Rattle.mix_system.specs.FarkasSum.{by_side, coeff_on, sum_op, term_steps, parts_of}
+use Rattle.mix_system.specs.FarkasSum.{by_side, coeff_on, term_steps, parts_of}
 use Rattle.bounded_simplex.specs.Combination.{Fits, IsAmong}
 use Rattle.bounded_simplex.proofs.CombinationLaws.{among_two}
 use Rattle.bounded_simplex.proofs.RatioLaws.{err_weaker}

@@ -1,10 +1,10 @@
-use Rattle.std.proofs.Common.{◌≡◌, ◌≢◌, ◌<◌, None, length, get_or, pos, ◌<ℤ◌, FitsSigned, All, sym, ap, subst, ◌∙◌, rules, arith}
+use Rattle.std.proofs.Common.{◌≡◌, ◌<◌, None, length, get_or, pos, ◌<ℤ◌, FitsSigned, All, sym, ap, subst, ◌∙◌, rules, arith}
 use Rattle.std.specs.Int.{w128}
 use Rattle.std.proofs.lemmas.Int.{ints}
 use Rattle.tableau_rows.specs.declared.entry.Entry.{Entry}
 use Rattle.bounded_simplex.specs.Combination.{AreWorked, IsPut, IsPutStep}
 use Rattle.bounded_simplex.specs.Refutation.{columns_of, bound_on, hindering}
-use Rattle.bounded_simplex.proofs.RefutationLaws.{Refuting, front_of, front_all, first_put, first_step, next_skip, next_put, next_step, next_found, refuting_end, refuting_found}
+use Rattle.bounded_simplex.proofs.RefutationLaws.{Refuting, front_all, first_put, first_step, next_skip, next_put, next_step, next_found, refuting_end, refuting_found}
 use Rattle.bounded_simplex.proofs.StepLaws.{ok_true}
 use Rattle.bounded_simplex.proofs.refutation.refute.Goals as goal
 

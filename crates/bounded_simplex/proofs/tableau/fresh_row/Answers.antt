@@ -1,4 +1,4 @@
-use Rattle.std.proofs.Common.{◌≢◌, sym, arith}
+use Rattle.std.proofs.Common.{◌≢◌, arith}
 use Rattle.std.proofs.lemmas.Bool.Decides.{nat_tests}
 use Rattle.bounded_simplex.proofs.PivotLaws.{apart_read, basics_differ}
 use Rattle.bounded_simplex.proofs.tableau.fresh_row.Goals as goal

@@ -1,4 +1,4 @@
-use Rattle.std.proofs.Common.{◌+◌, ap, length, ◌∙◌, rules, arith}
+use Rattle.std.proofs.Common.{◌+◌, ap, length, ◌∙◌, rules}
 use Rattle.std.proofs.lemmas.List.{length_push}
 use Rattle.bounded_simplex.specs.Pivot.{IsFresh}
 use Rattle.bounded_simplex.proofs.PivotLaws.{formed_more}

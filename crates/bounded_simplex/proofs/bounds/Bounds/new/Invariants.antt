@@ -1,4 +1,4 @@
-use Rattle.std.proofs.Common.{◌≡◌, ℕ, ◌+◌, ◌*◌, ◌<◌, ◌≤◌, length, get_or, None}
+use Rattle.std.proofs.Common.{◌≡◌, ℕ, ◌+◌, ◌*◌, ◌≤◌, length, get_or, None}
 use Rattle.bounded_simplex.proofs.FirstBoundLaws.{RangesStand}
 use Rattle.bounded_simplex.proofs.bounds.Bounds.new.Given as goal
 

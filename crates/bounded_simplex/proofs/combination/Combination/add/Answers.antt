@@ -1,10 +1,9 @@
-use Rattle.std.proofs.Common.{◌≡◌, ◌⊎◌, ℕ, [], ◌∷◌, ◌++◌, ◌+ℤ◌, ◌*ℤ◌, FitsSigned, All, sym, ap, ◌∙◌, rules}
+use Rattle.std.proofs.Common.{◌≡◌, ℕ, ◌+ℤ◌, FitsSigned, All, rules}
 use Rattle.std.specs.Int.{w128}
 use Rattle.std.proofs.lemmas.Int.{to_z-of_z}
-use Rattle.wx_num.specs.declared.excess.NumOp.TheVariants.{Times}
 use Rattle.mix_system.specs.Row.{number_at}
-use Rattle.mix_system.specs.FarkasSum.{weight, bound_weight, parts_of, sum_op, term_steps}
-use Rattle.bounded_simplex.specs.Combination.{Fits, IsAmong, AreWorked}
+use Rattle.mix_system.specs.FarkasSum.{weight, parts_of, term_steps}
+use Rattle.bounded_simplex.specs.Combination.{Fits}
 use Rattle.bounded_simplex.proofs.CombinationLaws.{worked_more, among_term, among_bound}
 use Rattle.bounded_simplex.proofs.combination.Combination.add.Goals as goal
 

@@ -1,4 +1,4 @@
-use Rattle.std.proofs.Common.{◌≡◌, ◌≢◌, ◌<◌, pos, ◌*ℤ◌, FitsSigned, rules, arith}
+use Rattle.std.proofs.Common.{◌≡◌, ◌<◌, pos, ◌*ℤ◌, FitsSigned, rules, arith}
 use Rattle.std.specs.Prelude.{unsigned_abs}
 use Rattle.std.specs.Int.{w128, IsGcd}
 use Rattle.std.proofs.lemmas.Int.{ints, to_z-of_z}

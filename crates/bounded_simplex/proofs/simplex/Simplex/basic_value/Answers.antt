@@ -1,7 +1,6 @@
-use Rattle.std.proofs.Common.{◌≡◌, ◌<◌, length, pos, ◌*ℤ◌, FitsSigned, All, sym, ap, subst, ◌∙◌, inl, rules, arith}
+use Rattle.std.proofs.Common.{◌≡◌, length, pos, ◌*ℤ◌, FitsSigned, sym, ap, subst, ◌∙◌, inl, rules, arith}
 use Rattle.std.specs.Int.{w128}
-use Rattle.std.proofs.lemmas.Int.{ints, to_z-of_z}
-use Rattle.tableau_rows.specs.declared.entry.Entry.{Entry}
+use Rattle.std.proofs.lemmas.Int.{to_z-of_z}
 use Rattle.tableau_rows.specs.declared.equation.Equation.{Equation}
 use Rattle.tableau_rows.specs.Substitution.{taken}
 use Rattle.wx_num.specs.Excess.{Overflows}
@@ -42,8 +41,8 @@ returns-in-Ok-clause-value c = λ d denominator number kept.
     subst (λ (x : Equation). c.reduced.result.num *ℤ denominator ≡ number x.basic *ℤ c.reduced.result.den) (read_at s.tableau.rows.items c.args.at row d c.requires c.index-equation.ensures)
     (ratio_value c.reduced.result.num c.reduced.result.den c.in-Ok.numerator row.denominator (number row.basic) denominator row.sound.positive ratio (value ∙ ap (λ z. denominator *ℤ z) (sym n)))
 
-pub returns-in-Err-clause-excess : goal.returns-in-Err-clause-excess
-returns-in-Err-clause-excess c =
+pub returns-in-Err-clause-fault : goal.returns-in-Err-clause-fault
+returns-in-Err-clause-fault c =
     let s = c.args.self.now in
     let row = c.index-equation.result.now in
     let step = rw c.deref.ensures.value at c.in-Err.ensures.step in

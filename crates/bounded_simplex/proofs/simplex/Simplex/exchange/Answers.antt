@@ -1,14 +1,10 @@
-use Rattle.std.proofs.Common.{◌≡◌, ◌≢◌, ℕ, ◌<◌, length, sym, ap, subst, ◌∙◌, inr, rules, arith}
-use Rattle.wx_num.specs.Excess.{Overflows}
-use Rattle.tableau_rows.specs.declared.equation.Equation.{Equation}
+use Rattle.std.proofs.Common.{sym, ap, subst, ◌∙◌, rules, arith}
 use Rattle.bounded_simplex.specs.InForce.{in_force}
 use Rattle.bounded_simplex.specs.Pivot.{ArePivoted, IsPivotExcess}
 use Rattle.bounded_simplex.specs.Point.{AreInBounds}
-use Rattle.bounded_simplex.specs.Refutation.{columns_of, bound_on}
-use Rattle.bounded_simplex.specs.Settled.{at_bound}
-use Rattle.bounded_simplex.specs.Terms.{term_of}
+use Rattle.bounded_simplex.specs.Refutation.{columns_of}
 use Rattle.bounded_simplex.proofs.PivotLaws.{pivot_tableau}
-use Rattle.bounded_simplex.proofs.StepLaws.{at_bound_in_bounds, length_at_bound}
+use Rattle.bounded_simplex.proofs.StepLaws.{at_bound_in_bounds}
 use Rattle.bounded_simplex.proofs.WithinLaws.{basic_known, taken_known}
 use Rattle.bounded_simplex.proofs.simplex.Simplex.exchange.Goals as goal
 

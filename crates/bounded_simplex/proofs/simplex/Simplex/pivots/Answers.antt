@@ -1,4 +1,4 @@
-use Rattle.std.proofs.Common.{◌≡◌, ◌*◌, ◌+◌, length, All, ap, rules, arith}
+use Rattle.std.proofs.Common.{◌≡◌, All, rules, arith}
 use Rattle.mix_system.specs.declared.literal.Side.{Side}
 use Rattle.mix_system.specs.Tally.{pivot_bound}
 use Rattle.tableau_rows.specs.declared.equation.Equation.{Equation}

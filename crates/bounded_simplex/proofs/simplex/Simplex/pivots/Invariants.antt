@@ -1,5 +1,4 @@
 use Rattle.std.proofs.Common.{◌≡◌, ◌≤◌, ◌-◌, false}
-use Rattle.mix_system.specs.Tally.{pivot_bound}
 use Rattle.bounded_simplex.specs.Point.{AreInBounds}
 use Rattle.bounded_simplex.proofs.simplex.Simplex.pivots.Given as goal
 

@@ -1,4 +1,4 @@
-use Rattle.std.proofs.Common.{◌≡◌, ◌⊎◌, pos, length, All, sym, ap, subst, ◌∙◌, inl, Ok, rules}
+use Rattle.std.proofs.Common.{◌≡◌, ◌⊎◌, pos, All, sym, ap, subst, ◌∙◌, inl, Ok, rules}
 use Rattle.wx_num.specs.Excess.{Overflows}
 use Rattle.mix_system.specs.Row.{number_at}
 use Rattle.tableau_rows.specs.declared.entry.Entry.{Entry}
@@ -37,8 +37,8 @@ refute-requires-clause-cancels c =
     λ var. subst (λ (x : Equation). total (times_in_column s.bounds.system var) x.entries.items ≡ pos 0) (sym c.index-equation.ensures)
     (cancels_out s.bounds.system s.tableau.rows.items c.term_at-basic.ensures.well_formed s.tableau_of c.args.broken.at row c.requires.broken.within var)
 
-pub returns-in-Ok-None-clause-answer : goal.returns-in-Ok-None-clause-answer
-returns-in-Ok-None-clause-answer c =
+pub returns-in-Ok-None : goal.returns-in-Ok-None
+returns-in-Ok-None c =
     let s = c.args.self.now in
     let row = c.index-equation.result.now in
     let up = c.args.upwards in
@@ -52,20 +52,22 @@ returns-in-Ok-None-clause-answer c =
     let found = c.in_ok-farkas.ensures.found (bounded_values s.bounds s.values.items row up bound bounded) hindered below in
     absurd (no_none c.in_ok-farkas.field-0 (c.in-Ok-None.is ∙ ap Ok c.in-Ok-None.field-0-is) found)
 
-pub returns-in-Err-clause-answer : goal.returns-in-Err-clause-answer
-returns-in-Err-clause-answer c =
+pub returns-in-Err : goal.returns-in-Err
+returns-in-Err c =
     let s = c.args.self.now in
     let row = c.index-equation.result.now in
     let step : IsCombineStep s.bounds row c.in-Err.excess = search rules in
-    let over : Overflows c.in-Err.excess = search rules in (
-      record {
-        formed = inl (record {
-          at = c.args.broken.at;
-          within = c.requires.broken.within;
-          formed = λ d. subst (λ (x : Equation). IsFormedAt s.bounds s.values.items x (Combine c.term_at-basic.result) c.in-Err.excess)
-              (read_at s.tableau.rows.items c.args.broken.at row d c.requires.broken.within c.index-equation.ensures) (c.term_at-basic.ensures.term, step);
-        });
-        overflows = over;
-      },
-      tt,
-    )
+    let over : Overflows c.in-Err.excess = search rules in record {
+      answer = (
+        record {
+          formed = inl (record {
+            at = c.args.broken.at;
+            within = c.requires.broken.within;
+            formed = λ d. subst (λ (x : Equation). IsFormedAt s.bounds s.values.items x (Combine c.term_at-basic.result) c.in-Err.excess)
+                (read_at s.tableau.rows.items c.args.broken.at row d c.requires.broken.within c.index-equation.ensures) (c.term_at-basic.ensures.term, step);
+          });
+          overflows = over;
+        },
+        tt,
+      );
+    }

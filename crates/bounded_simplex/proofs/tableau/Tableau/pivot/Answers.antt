@@ -1,6 +1,6 @@
 use Rattle.std.proofs.Common.{ℕ, ◌<◌, length, Option, get_or, rules}
 use Rattle.tableau_rows.specs.declared.equation.Equation.{Equation}
-use Rattle.bounded_simplex.specs.Pivot.{ArePivoted, IsFresh}
+use Rattle.bounded_simplex.specs.Pivot.{IsFresh}
 use Rattle.bounded_simplex.proofs.PivotLaws.{pivoted_from_fresh, pivot_holds, pivot_held, pivot_apart}
 use Rattle.bounded_simplex.proofs.tableau.Tableau.pivot.Goals as goal
 
