@@ -1,5 +1,5 @@
 -- Sums in normal form have the sum's value, and are rows.
-use Rattle.std.proofs.Common.{◌≡◌, ◌≢◌, ℕ, ◌+◌, ◌<◌, ◌≤◌, cond, nat_lt, ℤ, pos, ◌+ℤ◌, ◌*ℤ◌, List, [], ◌∷◌, ◌++◌, refl, ap, ◌∙◌, subst, arith, zero, suc, add-one, length, get_or, take, drop}
+use Rattle.std.proofs.Common.{false, ◌≡◌, ◌≢◌, ℕ, ◌+◌, ◌<◌, ◌≤◌, cond, nat_lt, ℤ, pos, ◌+ℤ◌, ◌*ℤ◌, List, [], ◌∷◌, ◌++◌, refl, ap, ◌∙◌, subst, arith, zero, suc, add-one, length, get_or, take, drop}
 use Rattle.std.specs.Prelude.{◌==◌, AllPairs, fold, unsigned_abs}
 use Rattle.std.specs.Ordering.{int_eq}
 use Rattle.std.proofs.Math.IntN.{zero-*ℤ}
@@ -185,6 +185,17 @@ with_part-split (next ∷ parts) part =
     let more : 1 + lesser_count part.var parts ≡ suc (lesser_count part.var parts) = omega arith in
     rw more (ap (λ rest. next ∷ rest) (with_part-split parts part)))
     (λ here. refl)
+
+-- a part of a greater variable than all others comes last
+pub with_part-behind : (parts : List Part) (part : Part) → Each (λ other. other.var < part.var) parts → with_part parts part ≡ parts ++ unless_zero part []
+with_part-behind [] part less = refl
+with_part-behind (next ∷ parts) part less =
+    by_test (λ test. cond test (next ∷ with_part parts part) (merged part (next ∷ parts)) ≡ next ∷ (parts ++ unless_zero part [])) (nat_lt next.var part.var)
+    (λ before. ap (λ rest. next ∷ rest) (with_part-behind parts part less.1))
+    (λ here. absurd (no_less next.var part.var here less.0))
+  where
+    no_less : (a b : ℕ) → nat_lt a b ≡ false → a < b → ⊥
+    no_less a b none less = grind (arith, nat_tests)
 
 pub row_of-more : (parts : List Part) (i : ℕ) (d : Part) → i < length parts → row_of (take (i + 1) parts) ≡ with_part (row_of (take i parts)) (get_or parts i d)
 unfolding row_of

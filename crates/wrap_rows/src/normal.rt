@@ -1,4 +1,4 @@
-ghost use Rattle.std.specs.Prelude.{◌≡◌, ◌+◌, ◌^◌, ◌<◌, ◌≤◌, ◌++◌, ◌∷◌, [], length, All, unsigned_abs, IfOk, OnOk, OnErr};
+ghost use Rattle.std.specs.Prelude.{◌≡◌, ◌+◌, ◌^◌, ◌<◌, ◌≤◌, ◌++◌, ◌∷◌, [], length, All, unsigned_abs, IsTrue, AllPairs, IfOk, OnOk, OnErr};
 ghost use Rattle.std.specs.List.{list_any};
 ghost use Rattle.mix_system.specs.System.{IsInner, Exists};
 ghost use Rattle.wrap_rows.specs.Normal.{is_same_lit, unless_zero, merged, lesser_count, with_part, sizes, row_of, with_lit, clause_of};
@@ -81,9 +81,31 @@ pub fn add_sum(alloc: Global, into: &mut System, parts: &[Part]) -> Result<u32, 
 {
     let mut row = SmallVec::new(alloc);
     for part in parts {
-        row = with_part(alloc, row.as_slice(), *part)?;
+        put_part(alloc, &mut row, *part)?;
     }
     into.add_row(row.as_slice())
+}
+
+// Puts one more part, in constant time where its variable is greater than all others.
+fn put_part(alloc: Global, sum: &mut Parts, part: Part) -> Result<(), NoMemory>
+    requires rising { AllPairs (λ part later. part.var < later.var) sum.old.items }
+    requires small { unsigned_abs part.coeff + sizes sum.old.items < 2 ^ 126 }
+    ensures { OnOk result (sum.new.items ≡ with_part sum.old.items part) }
+{
+    if is_behind(sum.as_slice(), part.var) {
+        return push_unless_zero(sum, part, &[]);
+    }
+    *sum = with_part(alloc, sum.as_slice(), part)?;
+    Ok(())
+}
+
+// Whether a variable is greater than those of all parts, whose variables rise.
+fn is_behind(parts: &[Part], var: u32) -> bool
+    requires rising { AllPairs (λ part later. part.var < later.var) parts.now }
+    ensures { IsTrue result → All (λ part. part.var < var) parts.now }
+{
+    let count = parts.len();
+    count == 0 || parts[count - 1].var < var
 }
 
 // Whether two literals are the same.
@@ -145,6 +167,10 @@ mod tests {
     use super::*;
     use std::test::Fail;
 
+    fn lit(term: Term, side: Side, bound: i128) -> Lit {
+        Lit { term, side, bound }
+    }
+
     #[test]
     fn rows_and_clauses_stand_in_normal_form(rt: HostRuntime) -> Result<(), Fail> {
         let mut system = System::new(rt.alloc());
@@ -163,36 +189,12 @@ mod tests {
         let row = [Part { coeff: 5, var: 0 }, Part { coeff: 5, var: 1 }];
         assert_eq!(rt; add_sum(rt.alloc(), &mut system, &parts)?, 0);
         let lits = [
-            Lit {
-                term: Term::Var(1),
-                side: Side::Ge,
-                bound: 1,
-            },
-            Lit {
-                term: Term::Row(0),
-                side: Side::Ge,
-                bound: 1,
-            },
-            Lit {
-                term: Term::Var(1),
-                side: Side::Ge,
-                bound: 1,
-            },
-            Lit {
-                term: Term::Var(1),
-                side: Side::Le,
-                bound: 1,
-            },
-            Lit {
-                term: Term::Var(1),
-                side: Side::Ge,
-                bound: 2,
-            },
-            Lit {
-                term: Term::Row(0),
-                side: Side::Ge,
-                bound: 1,
-            },
+            lit(Term::Var(1), Side::Ge, 1),
+            lit(Term::Row(0), Side::Ge, 1),
+            lit(Term::Var(1), Side::Ge, 1),
+            lit(Term::Var(1), Side::Le, 1),
+            lit(Term::Var(1), Side::Ge, 2),
+            lit(Term::Row(0), Side::Ge, 1),
         ];
         let clause = [lits[0], lits[1], lits[3], lits[4]];
         add_lits(rt.alloc(), &mut system, &lits)?;
