@@ -68,7 +68,7 @@ edges_value costs on point (edge ∷ edges) (var ∷ vars) same are =
 counted_none : (costs : ℕ → ℕ) (at count : ℕ) → counted costs (passes []) at count ≡ 0
 unfolding counted
 counted_none costs at zero = refl
-counted_none costs at (suc count) = counted_none costs (at + 1) count
+counted_none costs at (suc count) = omega (arith, counted_none costs (at + 1) count)
 
 -- a position before those that are counted
 counted_behind : (costs : ℕ → ℕ) (first : ℕ) (path : List ℕ) (at count : ℕ) → first < at → counted costs (passes (first ∷ path)) at count ≡ counted costs (passes path) at count
@@ -85,18 +85,22 @@ counted_more : (costs : ℕ → ℕ) (first : ℕ) (path : List ℕ) (at count :
     → counted costs (passes (first ∷ path)) at count ≡ costs first + counted costs (passes path) at count
 unfolding counted
 counted_more costs first path at zero low high none = absurd (omega (arith, low, high))
-counted_more costs first path at (suc count) low high none = ⊎_elim later here (cases_lt at first)
+counted_more costs first path at (suc count) low high none = ⊎_elim (λ less. later less (counted_more costs first path (at + 1) count (omega (arith, less)) (omega (arith, high)) none)) here (cases_lt at first)
   where
     goal : Type 0
     goal = counted costs (passes (first ∷ path)) at (suc count) ≡ costs first + counted costs (passes path) at (suc count)
+
     differ : (a b : ℕ) → b < a → eqb a b ≡ false
     differ a b less = grind (arith, nat_tests)
+
     equal : (a : ℕ) → eqb a a ≡ true
     equal a = (Decides-eqb a a).1 refl
-    later : at < first → goal
-    later less =
+
+    later : at < first → counted costs (passes (first ∷ path)) (at + 1) count ≡ costs first + counted costs (passes path) (at + 1) count → goal
+    later less more =
         let head : passes (first ∷ path) at ≡ passes path at = subst (λ (test : Bool). (test || passes path at) ≡ passes path at) (sym (differ first at less)) refl in
-        omega (arith, ap (λ (test : Bool). cond test (costs at) 0) head, counted_more costs first path (at + 1) count (omega (arith, less)) (omega (arith, high)) none)
+        omega (arith, ap (λ (test : Bool). cond test (costs at) 0) head, more)
+
     here : first ≤ at → goal
     here order =
         let same : first ≡ at = omega (arith, low, order) in
@@ -126,17 +130,18 @@ goes_there : (at next : ℕ) → goes at next (edge_at at next) ≡ true
 goes_there at next = grind (arith, nat_tests)
 
 goes_along : (at next from to : ℕ) → (eqb from at && eqb to next) ≡ true → (from ≡ at) × (to ≡ next)
-goes_along at next from to yes = (first at next from to yes, second at next from to yes)
+goes_along at next from to along = (first at next from to along, second at next from to along)
   where
     first : (at next from to : ℕ) → (eqb from at && eqb to next) ≡ true → from ≡ at
-    first at next from to yes = grind (arith, nat_tests)
+    first at next from to along = grind (arith, nat_tests)
+
     second : (at next from to : ℕ) → (eqb from at && eqb to next) ≡ true → to ≡ next
-    second at next from to yes = grind (arith, nat_tests)
+    second at next from to along = grind (arith, nat_tests)
 
 taken_none : (costs : Edge → ℕ) (last : ℕ) (edges : List Edge) → taken costs (takes (last ∷ [])) edges ≡ 0
 unfolding taken
 taken_none costs last [] = refl
-taken_none costs last (edge ∷ edges) = taken_none costs last edges
+taken_none costs last (edge ∷ edges) = omega (arith, taken_none costs last edges)
 
 module _ (costs : Edge → ℕ) (at next : ℕ) (rest : List ℕ) where
   taken_without : (edges : List Edge) → (Contains edges (edge_at at next) → ⊥) → taken costs (takes (at ∷ next ∷ rest)) edges ≡ taken costs (takes (next ∷ rest)) edges
@@ -144,30 +149,32 @@ module _ (costs : Edge → ℕ) (at next : ℕ) (rest : List ℕ) where
   taken_without [] none = refl
   taken_without (edge ∷ edges) none =
       let test : goes at next edge ≡ false = by_test (λ test. goes at next edge ≡ test → test ≡ false) (goes at next edge)
-      (λ yes is. let ends = goes_along at next edge.from edge.to yes in absurd (none (0, omega arith, subst (λ (n : ℕ). edge ≡ edge_at n next) ends.0 (subst (λ (n : ℕ). edge ≡ edge_at edge.from n) ends.1 refl)))) (λ no is. refl) refl in
+      (λ along is. let ends = goes_along at next edge.from edge.to along in absurd (none (0, omega arith, subst (λ (n : ℕ). edge ≡ edge_at n next) ends.0 (subst (λ (n : ℕ). edge ≡ edge_at edge.from n) ends.1 refl)))) (λ no is. refl) refl in
       let here : takes (at ∷ next ∷ rest) edge ≡ takes (next ∷ rest) edge = ap (λ (test : Bool). test || takes (next ∷ rest) edge) test in
       omega (arith, ap (λ (test : Bool). cond test (costs edge) 0) here, taken_without edges (λ (k, low, is). none (suc k, omega (arith, low), is)))
 
   taken_more : (edges : List Edge) → AreApart edges → HasEdge edges at next → takes (next ∷ rest) (edge_at at next) ≡ false
       → taken costs (takes (at ∷ next ∷ rest)) edges ≡ costs (edge_at at next) + taken costs (takes (next ∷ rest)) edges
-  unfolding taken, AreApart
+  unfolding taken AreApart
   taken_more [] are there none = absurd (no_item (edge_at at next) there)
-  taken_more (edge ∷ edges) are there none = ⊎_elim here later (cons_cases edge edges (edge_at at next) there)
+  taken_more (edge ∷ edges) are there none = ⊎_elim here (λ also. later also (taken_more edges are.1 also none)) (cons_cases edge edges (edge_at at next) there)
     where
       goal : Type 0
       goal = taken costs (takes (at ∷ next ∷ rest)) (edge ∷ edges) ≡ costs (edge_at at next) + taken costs (takes (next ∷ rest)) (edge ∷ edges)
+
       here : edge ≡ edge_at at next → goal
       here same =
           let test : takes (at ∷ next ∷ rest) edge ≡ true = subst (λ (e : Edge). (goes at next e || takes (next ∷ rest) e) ≡ true) (sym same) (ap (λ (test : Bool). test || takes (next ∷ rest) (edge_at at next)) (goes_there at next)) in
           let old : takes (next ∷ rest) edge ≡ false = subst (λ (e : Edge). takes (next ∷ rest) e ≡ false) (sym same) none in
           let behind = taken_without edges (λ also. are.0 (subst (Contains edges) (sym same) also)) in
           omega (arith, ap (λ (test : Bool). cond test (costs edge) 0) test, ap (λ (test : Bool). cond test (costs edge) 0) old, ap costs same, behind)
-      later : Contains edges (edge_at at next) → goal
-      later also =
+
+      later : Contains edges (edge_at at next) → taken costs (takes (at ∷ next ∷ rest)) edges ≡ costs (edge_at at next) + taken costs (takes (next ∷ rest)) edges → goal
+      later also more =
           let test : goes at next edge ≡ false = by_test (λ test. goes at next edge ≡ test → test ≡ false) (goes at next edge)
-          (λ yes is. let ends = goes_along at next edge.from edge.to yes in absurd (are.0 (subst (Contains edges) (subst (λ (n : ℕ). edge_at n next ≡ edge) ends.0 (subst (λ (n : ℕ). edge_at edge.from n ≡ edge) ends.1 refl)) also))) (λ no is. refl) refl in
+          (λ along is. let ends = goes_along at next edge.from edge.to along in absurd (are.0 (subst (Contains edges) (subst (λ (n : ℕ). edge_at n next ≡ edge) ends.0 (subst (λ (n : ℕ). edge_at edge.from n ≡ edge) ends.1 refl)) also))) (λ no is. refl) refl in
           let head : takes (at ∷ next ∷ rest) edge ≡ takes (next ∷ rest) edge = ap (λ (test : Bool). test || takes (next ∷ rest) edge) test in
-          omega (arith, ap (λ (test : Bool). cond test (costs edge) 0) head, taken_more edges are.1 also none)
+          omega (arith, ap (λ (test : Bool). cond test (costs edge) 0) head, more)
 
 -- ---- a path goes forward
 
@@ -206,10 +213,10 @@ module _ (edges : List Edge) (forward : Rising edges) where
     spent : (at : ℕ) (rest : List ℕ) → at < count → IsChain edges at rest
         → counted block_cost (passes (at ∷ rest)) 0 count + taken edge_cost (takes (at ∷ rest)) edges ≡ spends_in costs inside (at ∷ rest)
     spent at [] low chain =
-        omega (arith, counted_more block_cost at [] 0 count (omega arith) low refl, counted_none block_cost 0 count, taken_none edge_cost at edges)
+        omega (arith, counted_more block_cost at [] 0 count (omega arith) (omega (arith, low)) refl, counted_none block_cost 0 count, taken_none edge_cost at edges)
     spent at (next ∷ rest) low chain =
         let step = forward_in edges forward (edge_at at next) chain.0 in
-        let block = counted_more block_cost at (next ∷ rest) 0 count (omega arith) low (behind_path at at (next ∷ rest) (omega arith) chain) in
+        let block = counted_more block_cost at (next ∷ rest) 0 count (omega arith) (omega (arith, low)) (behind_path at at (next ∷ rest) (omega arith) chain) in
         let edge = taken_more edge_cost at next rest edges once chain.0 (behind_edges (edge_at at next) next rest step chain.1) in
         omega (arith, block, edge, split (inside at) (costs.block at) (costs.edge at next), spent next rest (within at next chain.0) chain.1)
 
@@ -222,7 +229,7 @@ module _ (it : SoundFunc) (sound : IsSound it) (costs : PositionCosts) (inside :
   parts_value marks edges_size =
       let block_cost : ℕ → ℕ = λ at. cond (inside at) (costs.block at) 0 in
       let edge_cost : Edge → ℕ = λ edge. cond (inside edge.from) (costs.edge edge.from edge.to) 0 in
-      let blocks = blocks_value block_cost (passes path) point 0 block_vars marks.blocks in
+      let blocks = blocks_value block_cost (passes path) point 0 block_vars (λ k low. marks.blocks k low ∙ ap (λ (n : ℕ). mark_of (passes path n)) (omega arith)) in
       let edges = edges_value edge_cost (takes path) point it.flow.edges edge_vars edges_size marks.edges in
       let both = int_sum_by-append (λ (part : Part). part.coeff *ℤ number_at point part.var) (block_parts block_cost 0 block_vars) (edge_parts edge_cost it.flow.edges edge_vars) in
       omega (arith, ints, blocks, edges, both)
@@ -232,10 +239,10 @@ module _ (it : SoundFunc) (sound : IsSound it) (costs : PositionCosts) (inside :
   row_spends is marks blocks_size edges_size =
       row_of-value point (spend_parts costs inside it.flow.edges block_vars edge_vars) ∙ parts_value marks edges_size ∙ ap pos (sums path is)
     where
-      flow = flow_forward (length it.func.blocks) it.flow sound.flow.flow
+
       sums : (path : List ℕ) → IsPath it.flow.edges path
           → counted (λ at. cond (inside at) (costs.block at) 0) (passes path) 0 (length block_vars) + taken (λ edge. cond (inside edge.from) (costs.edge edge.from edge.to) 0) (takes path) it.flow.edges ≡ spends_in costs inside path
       sums [] is = absurd is
       sums (first ∷ rest) is =
-          spent it.flow.edges (rising (length it.flow.order) it.flow.edges flow) costs inside (length block_vars) (apart it.flow.edges sound.flow.flow.edges.sorted)
+          spent it.flow.edges (rising (length it.flow.order) it.flow.edges (flow_forward (length it.func.blocks) it.flow sound.flow.flow)) costs inside (length block_vars) (apart it.flow.edges sound.flow.flow.edges.sorted)
           (λ from to there. omega (arith, blocks_size, ((sound.flow.flow.edges.same from to).0 there).1)) first rest (omega (arith, is.0, blocks_size, sound.flow.entry, sound.flow.flow.size)) is.1

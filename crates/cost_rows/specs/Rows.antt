@@ -1,5 +1,5 @@
 -- Rows that sum up what a path spends, over a variable for each block and each edge.
-use Rattle.std.specs.Prelude.{◌≡◌, ◌<◌, ℕ, ◌+◌, Bool, if◌then◌else◌, ℤ, pos, List, [], ◌∷◌, ◌++◌, length, map, zip, slice_index, slice_index_or, All, EachIndex}
+use Rattle.std.specs.Prelude.{◌≡◌, ◌<◌, ℕ, ◌+◌, Bool, false, if◌then◌else◌, ℤ, pos, List, [], ◌∷◌, ◌++◌, length, map, zip, slice_index_or, All}
 use Rattle.flow_graph.specs.declared.edge.Edge.{Edge}
 use Rattle.mix_system.specs.declared.row.Part.{Part}
 use Rattle.mix_system.specs.Row.{number_at}
@@ -45,12 +45,12 @@ row_parts it costs inside vars = spend_parts (costs_at it costs) inside it.flow.
 -- ---- at a point
 
 -- The variables of the blocks and edges of a path are 1, and those of all others 0.
-pub record MarksPath (path : List ℕ) (edges : List Edge) (block_vars edge_vars : List ℕ) (point : List ℤ) : Type 0 where
+pub record MarksPath (path : List ℕ) (graph : List Edge) (block_vars edge_vars : List ℕ) (point : List ℤ) : Type 0 where
   pub blocks : (at : ℕ) → at < length block_vars → number_at point (slice_index_or block_vars at 0) ≡ mark_of (passes path at)
-  pub edges : (k : ℕ) (edge : Edge) → k < length edge_vars → slice_index_or edges k edge ≡ edge → number_at point (slice_index_or edge_vars k 0) ≡ mark_of (takes path edge)
+  pub edges : (k : ℕ) (edge : Edge) → k < length edge_vars → slice_index_or graph k edge ≡ edge → number_at point (slice_index_or edge_vars k 0) ≡ mark_of (takes path edge)
 
 -- ---- in code
 
 -- a flag for each position, true at some
 abbrev pub AreFlags : (ℕ → Bool) → List Bool → Type 0
-AreFlags inside flags = EachIndex flags (λ at. slice_index flags at ≡ inside at)
+AreFlags inside flags = (at : ℕ) → at < length flags → slice_index_or flags at false ≡ inside at

@@ -17,28 +17,19 @@ pub fn all_flags(alloc: Global, count: usize) -> Result<Vec<bool>, NoMemory>
 }
 
 /// True at the positions of a portion.
-pub fn portion_flags(
-    alloc: Global,
-    count: usize,
-    portion: Portion,
-) -> Result<Vec<bool>, NoMemory>
-    requires few { count < 2 ^ 31 }
+pub fn portion_flags(alloc: Global, count: usize, portion: Portion) -> Result<Vec<bool>, NoMemory>
     ensures size { IfOk result (λ flags. vec_len flags ≡ count) }
     ensures flags { IfOk result (λ flags. AreFlags (spec.is_in portion) flags.items) }
 {
     let mut flags = Vec::new(alloc);
-    for at in 0..count as u32 {
-        flags.push(portion.from.0 <= at && at < portion.to.0)?;
+    for at in 0..count {
+        flags.push(portion.from.0 as usize <= at && at < portion.to.0 as usize)?;
     }
     Ok(flags)
 }
 
 /// True at the given positions.
-pub fn region_flags(
-    alloc: Global,
-    count: usize,
-    blocks: &[Position],
-) -> Result<Vec<bool>, NoMemory>
+pub fn region_flags(alloc: Global, count: usize, blocks: &[Position]) -> Result<Vec<bool>, NoMemory>
     requires within { All (λ block. block.0 < count) blocks.now }
     ensures size { IfOk result (λ flags. vec_len flags ≡ count) }
     ensures flags { IfOk result (λ flags. AreFlags

@@ -31,7 +31,7 @@ pub fn add_cost_row(
     ensures number { IfOk result (λ row. row ≡ length into.old.rows) }
     ensures ok { OnOk result (into.new ≡ record into.old {
       rows = into.old.rows
-          ++ row_of (row_parts sound.now costs.now (λ at. true) vars) ∷ [];
+          ++ row_of (row_parts sound.now costs.now (λ at. true) vars.entry) ∷ [];
     }) }
     ensures err { OnErr result (into.new ≡ into.old) }
 {
@@ -56,7 +56,7 @@ pub fn add_portion_row(
     ensures number { IfOk result (λ row. row ≡ length into.old.rows) }
     ensures ok { OnOk result (into.new ≡ record into.old {
       rows = into.old.rows
-          ++ row_of (row_parts sound.now costs.now (is_in portion) vars) ∷ [];
+          ++ row_of (row_parts sound.now costs.now (is_in portion) vars.entry) ∷ [];
     }) }
     ensures err { OnErr result (into.new ≡ into.old) }
 {
@@ -82,7 +82,7 @@ pub fn add_region_row(
     ensures number { IfOk result (λ row. row ≡ length into.old.rows) }
     ensures ok { OnOk result (into.new ≡ record into.old {
       rows = into.old.rows
-          ++ row_of (row_parts sound.now costs.now (is_within region.now) vars) ∷ [];
+          ++ row_of (row_parts sound.now costs.now (is_within region.now) vars.entry) ∷ [];
     }) }
     ensures err { OnErr result (into.new ≡ into.old) }
 {
@@ -106,9 +106,9 @@ fn add_row(
     ensures number { IfOk result (λ row. row ≡ length into.old.rows) }
     ensures ok { (inside : ℕ → Bool) → AreFlags inside flags.now → OnOk result
         (into.new ≡ record into.old {
-      rows = into.old.rows
-          ++ row_of (row_parts sound.now costs.now inside vars) ∷ [];
-    }) }
+          rows = into.old.rows
+              ++ row_of (row_parts sound.now costs.now inside vars.entry) ∷ [];
+        }) }
     ensures err { OnErr result (into.new ≡ into.old) }
 {
     let mut parts = Vec::new(alloc);

@@ -39,7 +39,7 @@ rising_of (edge ∷ edges) later sorted = (
 pub rising : (blocks : ℕ) (edges : List Edge) → IsForward blocks edges → Rising edges
 rising blocks edges forward = rising_of edges forward.later forward.sorted
 
-forward_in : (edges : List Edge) → Rising edges → (edge : Edge) → Contains edges edge → edge.from < edge.to
+pub forward_in : (edges : List Edge) → Rising edges → (edge : Edge) → Contains edges edge → edge.from < edge.to
 forward_in [] is edge there = absurd (no_item edge there)
 forward_in (first ∷ edges) is edge there =
     ⊎_elim (λ same. subst (λ (e : Edge). e.from < e.to) same is.0) (λ later. forward_in edges is.2 edge later) (cons_cases first edges edge there)
@@ -178,6 +178,13 @@ longest_is it sound costs portion best some are =
 
 abbrev pub no_edge : PositionEdge
 no_edge = position_edge (edge_at 0 0)
+
+-- the edge at a place of the list is that of the graph
+pub edge_of_list : (edges : List Edge) (list : List PositionEdge) → list ≡ map position_edge edges → (at : ℕ) → at < length edges
+    → get_or edges at (edge_at (get_or list at no_edge).from.0 (get_or list at no_edge).to.0) ≡ edge_at (get_or list at no_edge).from.0 (get_or list at no_edge).to.0
+edge_of_list edges list lists at low =
+    let same : get_or list at no_edge ≡ position_edge (get_or edges at (edge_at 0 0)) = ap (λ (l : List PositionEdge). get_or l at no_edge) lists ∙ get_or-map position_edge edges at (edge_at 0 0) no_edge low in
+    get_or_default edges at (edge_at (get_or list at no_edge).from.0 (get_or list at no_edge).to.0) (edge_at 0 0) low ∙ sym (ap (λ (e : PositionEdge). edge_at e.from.0 e.to.0) same)
 
 -- what is asked where an edge is taken
 pub record CanRelax (it : SoundFunc) (edge : PositionEdge) : Type 0 where

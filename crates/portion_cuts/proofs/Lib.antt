@@ -1,6 +1,6 @@
-mod BestLaws
+pub mod BestLaws
 mod CoverLaws
 mod CutLaws
 pub mod EntryLaws
-mod LabelLaws
+pub mod LabelLaws
 pub mod WalkPaths

@@ -124,7 +124,8 @@ fn is_in(portion: Portion, at: Position) -> bool
     portion.from.0 <= at.0 && at.0 < portion.to.0
 }
 
-fn block_at(sound: &Sound, at: Position) -> BlockId
+/// The block at a position.
+pub fn block_at(sound: &Sound, at: Position) -> BlockId
     requires { at.0 < length sound.now.flow.order }
     ensures place { result.0 ≡ place_at sound.now at.0 }
     ensures within { result.0 < length sound.now.func.blocks }

@@ -7,7 +7,7 @@ mod cuts;
 mod laws;
 mod portion;
 
-pub use best::longest;
+pub use best::{block_at, longest};
 pub use cuts::portions;
 pub use laws::{
     entry_stands_first, portions_cover_all_blocks, spending_adds_up, walks_are_paths_by_positions,
