@@ -1,5 +1,6 @@
 -- A property of each item of a list, one by one.
-use Rattle.std.proofs.Common.{◌≡◌, ◌≢◌, ◌⊎◌, ℕ, suc, ◌+◌, ◌<◌, ◌≤◌, List, [], ◌∷◌, ◌++◌, length, get_or, ℤ, pos, refl, sym, ap, ◌∙◌, subst, inl, inr, ⊎_elim, arith}
+use Rattle.std.proofs.Common.{◌≡◌, ◌≢◌, ◌⊎◌, ℕ, suc, ◌+◌, ◌<◌, ◌≤◌, List, [], ◌∷◌, ◌++◌, length, get_or, Option, None, Some, ℤ, pos, refl, sym, ap, ◌∙◌, subst, inl, inr, ⊎_elim, arith}
+use Rattle.std.specs.Prelude.{IfSome, IfNone}
 use Rattle.std.proofs.lemmas.Bool.{cases_lt, cases_eq}
 use Rattle.std.proofs.lemmas.List.{get_or_default, get_or_append_left, get_or_at}
 use Rattle.std.proofs.lemmas.List.Elements.{All-cons, All-nil}
@@ -40,3 +41,16 @@ low_more ranges values more var low count added here before k within =
     (λ (le : var ≤ k).
     let same : k ≡ var = omega (arith, le, within) in
     ap (λ vs. number_at vs k) added ∙ get_or_at values low [] (pos 0) k (omega (arith, same, count)) ∙ here ∙ ap (λ n. (get_or ranges n (pos 0, pos 0)).0) (sym same)) (cases_lt k var)
+
+-- the one of two, each of which may be missing
+pub of_both_some : {X : Type 0} (P : X → Type 0) (found next result : Option X) → (result ≡ found) ⊎ (result ≡ next) → IfSome found P → IfSome next P → IfSome result P
+of_both_some P found next result of one two =
+    ⊎_elim (λ (e : result ≡ found). subst (λ o. IfSome o P) (sym e) one) (λ (e : result ≡ next). subst (λ o. IfSome o P) (sym e) two) of
+
+pub of_both_none : {X A B C : Type 0} (found next result : Option X) → IfNone result ((found ≡ None) × (next ≡ None)) → IfNone found A → IfNone next B → (A → B → C) → IfNone result C
+of_both_none {X} {A} {B} {C} found next None none one two both = both (subst (λ o. IfNone o A) none.0 one) (subst (λ o. IfNone o B) none.1 two)
+of_both_none found next (Some x) none one two both = tt
+
+pub some_also : {X : Type 0} (P Q : X → Type 0) (o : Option X) → IfSome o P → ((x : X) → P x → Q x) → IfSome o Q
+some_also P Q None some also = tt
+some_also P Q (Some x) some also = also x some

@@ -21,13 +21,28 @@ pub(crate) struct Broken {
     pub(crate) at: usize,
     pub(crate) basic: u32,
     pub(crate) side: Side,
+    // Among broken equations the lightest comes first.
+    weight: usize,
 }
 
-/// The broken equation of the least basic column, `None` where all basic columns keep their bounds.
+impl Broken {
+    // Whether it is mended before another: it is lighter, or of the lower basic column.
+    fn is_before(&self, other: &Broken) -> bool {
+        if self.weight != other.weight {
+            return self.weight < other.weight;
+        }
+        self.basic < other.basic
+    }
+}
+
+/// The broken equation that is to be mended first, `None` where all basic columns keep their
+/// bounds: the shortest one, of the least basic column among equals, or late the one of the least
+/// basic column outright.
 pub(crate) fn first_broken(
     bounds: &Bounds<'_>,
     rows: &[Equation],
     values: &[i128],
+    late: bool,
 ) -> Result<Option<Broken>, Fault>
     requires known { AreWithin (columns_of bounds.now.system) rows.now }
     requires values { length values.now ≡ columns_of bounds.now.system }
@@ -41,7 +56,7 @@ pub(crate) fn first_broken(
 {
     let mut found = None;
     for at in 0..rows.len() {
-        let next = match broken_at(bounds, rows, values, at) {
+        let next = match broken_at(bounds, rows, values, at, late) {
             Ok(next) => next,
             Err(fault) => return Err(fault),
         };
@@ -50,7 +65,7 @@ pub(crate) fn first_broken(
     Ok(found)
 }
 
-// That of the lower basic column, where there are two.
+// The one that is mended before the other, where there are two.
 fn earlier(found: Option<Broken>, next: Option<Broken>) -> Option<Broken>
     ensures of_both { (result ≡ found) ⊎ (result ≡ next) }
     ensures none { IfNone result ((found ≡ None) × (next ≡ None)) }
@@ -61,11 +76,7 @@ fn earlier(found: Option<Broken>, next: Option<Broken>) -> Option<Broken>
     let Some(other) = next else {
         return found;
     };
-    if other.basic < first.basic {
-        next
-    } else {
-        found
-    }
+    if other.is_before(&first) { next } else { found }
 }
 
 // The equation at a place, where it is broken.
@@ -74,6 +85,7 @@ fn broken_at(
     rows: &[Equation],
     values: &[i128],
     at: usize,
+    late: bool,
 ) -> Result<Option<Broken>, Fault>
     requires known { AreWithin (columns_of bounds.now.system) rows.now }
     requires values { length values.now ≡ columns_of bounds.now.system }
@@ -92,10 +104,16 @@ fn broken_at(
             at,
             basic: equation.basic,
             side,
+            weight: weight_of(equation, late),
         })),
         Ok(None) => Ok(None),
         Err(fault) => Err(fault),
     }
+}
+
+// What the choice goes by before the basic column.
+fn weight_of(equation: &Equation, late: bool) -> usize {
+    if late { 0 } else { equation.entries.len() }
 }
 
 // The side on which the value of an equation's basic column breaks its bound.

@@ -18,6 +18,7 @@ mod settle;
 mod simplex;
 mod sums;
 mod tableau;
+mod uses;
 mod value;
 
 pub use bounds::{Bounds, Mark};

@@ -57,7 +57,9 @@ impl Simplex<'_> {
         Ok(())
     }
 
-    // Pivots until no basic column is broken, the least column first.
+    // Pivots until no basic column is broken: short equations first and columns that few of them
+    // take, so that equations stay short. That may go in a circle, so after a quarter of all pivots
+    // that may be made it is always the least column of both, which can't.
     fn pivots(&mut self, alloc: Global) -> Result<Mended, NoMemory>
         requires in_bounds { AreInBounds self.old.bounds self.old.values.items }
         requires made { self.old.made ≤ pivot_bound self.old.bounds.system }
@@ -71,13 +73,14 @@ impl Simplex<'_> {
     {
         let most = 16 * u64::from(self.bounds.columns());
         loop {
-            let broken = match first_broken(&self.bounds, &self.tableau.rows, &self.values) {
+            let late = self.made >= most / 4;
+            let broken = match first_broken(&self.bounds, &self.tableau.rows, &self.values, late) {
                 Ok(Some(broken)) => broken,
                 Ok(None) => return Ok(Mended::Point),
                 Err(fault) => return Ok(Mended::Excess(fault)),
             };
             let upwards = is_below(broken.side);
-            let Some(column) = self.entering_for(broken, upwards) else {
+            let Some(column) = self.entering_for(broken, upwards, late) else {
                 return self.refuted(alloc, broken, upwards);
             };
             if self.made >= most {
@@ -90,8 +93,8 @@ impl Simplex<'_> {
         }
     }
 
-    // The least column outside the basis that can move a broken basic column towards its bound.
-    fn entering_for(&self, broken: Broken, upwards: bool) -> Option<u32>
+    // A column outside the basis that can move a broken basic column towards its bound.
+    fn entering_for(&self, broken: Broken, upwards: bool, late: bool) -> Option<u32>
         requires { broken.at < length self.now.tableau.rows.items }
         ensures none { IfNone result ((d : AnEquation)
             → All (λ entry. (entry.column
@@ -104,7 +107,8 @@ impl Simplex<'_> {
             → (slice_index_or self.now.tableau.rows.items broken.at d).basic ≢ column) }
     {
         let equation = &self.tableau.rows[broken.at];
-        entering(&self.bounds, &self.values, equation, upwards)
+        let guide = if late { None } else { Some(&self.tableau.uses) };
+        entering(&self.bounds, &self.values, equation, upwards, guide)
     }
 
     // The refutation by a broken equation of which no column can move.

@@ -5,6 +5,7 @@ ghost use Rattle.wx_num.specs.Excess.{Overflows};
 ghost use Rattle.bounded_simplex.specs.TableauOf.{AllHold, AreApart, TableauOf, IsOfRow};
 ghost use Rattle.bounded_simplex.specs.Pivot.{ArePivoted, ArePut, IsFresh, IsStepAt, IsPivotExcess, set_chosen};
 
+use crate::uses::Uses;
 use mix_system::System;
 use std::alloc::Global;
 use tableau_rows::Equation;
@@ -23,6 +24,7 @@ pub struct PivotExcess {
 #[derive(Debug, Drop)]
 pub struct Tableau {
     pub rows: Vec<Equation>,
+    pub(crate) uses: Uses,
     pub ghost apart: { AreApart rows.items },
 }
 
@@ -39,7 +41,8 @@ impl Tableau {
         for row in 0..system.rows() {
             rows.push(Equation::of_row(alloc, system.row(row), vars + row)?)?;
         }
-        Ok(Tableau { rows })
+        let uses = uses_of(alloc, &rows, vars as usize + system.rows() as usize)?;
+        Ok(Tableau { rows, uses })
     }
 
     /// How often the equation at a place takes a column.
@@ -86,12 +89,21 @@ impl Tableau {
     {
         match fresh_rows(alloc, &self.rows, at, entering)? {
             Ok(fresh) => {
-                put_in(&mut self.rows, fresh);
+                put_in(&mut self.rows, &mut self.uses, fresh);
                 Ok(Ok(()))
             }
             Err(excess) => Ok(Err(excess)),
         }
     }
+}
+
+// How many of the equations take each of so many columns.
+fn uses_of(alloc: Global, rows: &[Equation], columns: usize) -> Result<Uses, NoMemory> {
+    let mut uses = Uses::new(alloc, columns)?;
+    for row in rows {
+        uses.add(&row.entries);
+    }
+    Ok(uses)
 }
 
 // The equations after a pivot, None where one stays as it is.
@@ -160,22 +172,23 @@ fn fresh_row(
 }
 
 // Puts each equation that was formed in its place.
-fn put_in(rows: &mut Vec<Equation>, fresh: Vec<Option<Equation>>)
+fn put_in(rows: &mut Vec<Equation>, uses: &mut Uses, fresh: Vec<Option<Equation>>)
     requires { length fresh.items ≡ length rows.old.items }
     ensures { ArePut rows.old.items fresh.items rows.new.items }
 {
     let mut fresh = fresh;
     while let Some(slot) = fresh.pop() {
-        put(rows, fresh.len(), slot);
+        put(rows, uses, fresh.len(), slot);
     }
 }
 
-fn put(rows: &mut Vec<Equation>, place: usize, slot: Option<Equation>)
+fn put(rows: &mut Vec<Equation>, uses: &mut Uses, place: usize, slot: Option<Equation>)
     requires { place < length rows.old.items }
     ensures { rows.new.items ≡ set_chosen rows.old.items place slot }
 {
     let Some(row) = slot else {
         return;
     };
+    uses.change(&rows[place].entries, &row.entries);
     rows[place] = row;
 }
