@@ -7,13 +7,13 @@ ghost use Rattle.clause_search.specs.Search.{known, single_bounds};
 ghost use Rattle.clause_search.specs.Marks.{lit_at, AreMarks};
 ghost use Rattle.clause_search.specs.Runs.{IsAim, IsReady, AreKept, IsBackLevel, IsLevelOf};
 
-use crate::Search;
+use crate::clause_trail::ClauseTrail;
 use crate::marks::Mark;
 use mix_system::{Hints, Lit, Lits};
 use std::alloc::Global;
 use wx_base::NoMemory;
 
-impl Search {
+impl ClauseTrail {
     /// The negations of the literals that are seen, in the order of the trail.
     pub(crate) fn kept(&self, alloc: Global, marks: &Vec<Mark>) -> Result<Lits, NoMemory>
         requires marks { AreMarks self.now marks.now.items }

@@ -5,7 +5,7 @@ ghost use Rattle.mix_system.specs.Bounds.{IsFalseIn};
 ghost use Rattle.bound_trail.specs.Trail.{box};
 ghost use Rattle.clause_search.specs.Marks.{mark_at, IsSeen, AreMarks, IsLowest, MarksCause, MarksCauses, Resolves, FindsPoint, ResolvesFrom};
 
-use crate::Search;
+use crate::clause_trail::ClauseTrail;
 use mix_system::Lit;
 use std::alloc::Global;
 use wx_base::NoMemory;
@@ -21,7 +21,7 @@ pub enum Mark {
     Used(u32),
 }
 
-impl Search {
+impl ClauseTrail {
     /// No mark on any literal of the trail.
     pub(crate) fn no_marks(&self, alloc: Global) -> Result<Vec<Mark>, NoMemory>
         ensures marks { IfOk result (λ marks. AreMarks self.now marks.items) }

@@ -67,6 +67,7 @@ fn step(alloc: Global, run: &mut Run, call: &str) -> Result<String, NoMemory>
         "back" => back_to(alloc, run, of),
         "add" => add(alloc, run, of),
         "learn" => learn(alloc, run),
+        "solve" => crate::solve::solve(alloc, run),
         "budget" => raise(alloc, run, of),
         "all" => state_text(alloc, run),
         _ => no_call(alloc),

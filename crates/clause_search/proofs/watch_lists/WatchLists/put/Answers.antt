@@ -1,0 +1,12 @@
+use Rattle.std.proofs.Common.{rules, ◌≡◌, ◌<◌, [], ◌∷◌, ◌++◌, length, slice_set, slice_index_or, IfOk, OnOk, OnErr, ℕ, ◌+◌, ◌-◌, ◌*◌, ◌≤◌, ◌/◌, ◌%◌, Bool, true, false, nat_eq, nat_lt, List, bit_and, bit_or, Fits, w8, w32, w64, Bor, MutBor}
+use Rattle.clause_search.specs.Watched.{list_at}
+use Rattle.clause_search.specs.Visited.{Takes, Replaces}
+use Rattle.clause_search.proofs.watch_lists.WatchLists.put.Goals as goal
+
+-- src/watch_lists.rt:70:9
+pub returns-in_err-push-clause-err : goal.returns-in_err-push-clause-err
+returns-in_err-push-clause-err c = ?
+
+-- src/watch_lists.rt:65:5
+pub returns-clause-ok : goal.returns-clause-ok
+returns-clause-ok c = ?

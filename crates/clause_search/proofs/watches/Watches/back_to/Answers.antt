@@ -1,0 +1,21 @@
+use Rattle.std.proofs.Common.{rules, ◌≡◌, ◌≢◌, ◌+◌, ◌*◌, ◌<◌, ◌≤◌, length, take, slice_get, slice_index_or, slice_set, Some, All, IfOk, OnOk, OnErr, MatchOption, ℕ, ◌-◌, ◌/◌, ◌%◌, Bool, true, false, nat_eq, nat_lt, List, [], ◌∷◌, ◌++◌, bit_and, bit_or, Fits, w8, w32, w64, Bor, MutBor}
+use Rattle.mix_system.specs.System.{IsInner, Exists}
+use Rattle.bound_trail.specs.Trail.{box, level_end, IsOpen}
+use Rattle.clause_search.specs.Search.{Propagated}
+use Rattle.clause_search.specs.Settled.{IsLeftAt}
+use Rattle.clause_search.specs.Answers.{Says}
+use Rattle.clause_search.specs.Decided.{Decides}
+use Rattle.clause_search.specs.Passed.{IsSettledAt}
+use Rattle.clause_search.specs.Watched.{list_at, IsListed, IsRight}
+use Rattle.clause_search.specs.Visited.{AreFalseBut, IsPartner, IsStale, Adds, Moves, IsVisiting, Goes, Visits, Works, Looks}
+use Rattle.std.specs.List.{HoldsAt}
+use Rattle.clause_search.proofs.WatchLaws.{watched_back}
+use Rattle.clause_search.proofs.watches.Watches.back_to.Goals as goal
+
+-- src/watches.rt:114:5
+pub returns-then-end-self-clause-right : goal.returns-then-end-self-clause-right
+returns-then-end-self-clause-right c = ?
+
+-- src/watches.rt:114:5
+pub returns-else-end-self-clause-right : goal.returns-else-end-self-clause-right
+returns-else-end-self-clause-right c = ?

@@ -1,0 +1,28 @@
+use Rattle.std.proofs.Common.{rules, ◌≡◌, ◌≢◌, ◌+◌, ◌*◌, ◌<◌, ◌≤◌, length, take, slice_get, slice_index_or, slice_set, Some, All, IfOk, OnOk, OnErr, MatchOption, ℕ, ◌-◌, ◌/◌, ◌%◌, Bool, true, false, nat_eq, nat_lt, List, [], ◌∷◌, ◌++◌, bit_and, bit_or, Fits, w8, w32, w64, Bor, MutBor}
+use Rattle.mix_system.specs.System.{IsInner, Exists}
+use Rattle.bound_trail.specs.Trail.{box, level_end, IsOpen}
+use Rattle.clause_search.specs.Search.{Propagated}
+use Rattle.clause_search.specs.Settled.{IsLeftAt}
+use Rattle.clause_search.specs.Answers.{Says}
+use Rattle.clause_search.specs.Decided.{Decides}
+use Rattle.clause_search.specs.Passed.{IsSettledAt}
+use Rattle.clause_search.specs.Watched.{list_at, IsListed, IsRight}
+use Rattle.clause_search.specs.Visited.{AreFalseBut, IsPartner, IsStale, Adds, Moves, IsVisiting, Goes, Visits, Works, Looks}
+use Rattle.std.specs.List.{HoldsAt}
+use Rattle.clause_search.proofs.watches.Watches.work.Goals as goal
+
+-- src/watches.rt:202:9
+pub loop-at-preserved-in-Kept : goal.loop-at-preserved-in-Kept
+loop-at-preserved-in-Kept c = ?
+
+-- src/watches.rt:202:9
+pub loop-at-preserved : goal.loop-at-preserved
+loop-at-preserved c = ?
+
+-- src/watches.rt:206:43
+pub returns-in-Stopped-clause-propagated : goal.returns-in-Stopped-clause-propagated
+returns-in-Stopped-clause-propagated c = ?
+
+-- src/watches.rt:187:5
+pub returns-clause-right : goal.returns-clause-right
+returns-clause-right c = ?
