@@ -1,12 +1,14 @@
 -- Which two literals of a clause became false last.
-use Rattle.std.proofs.Common.{◌≡◌, ◌≢◌, ◌⊎◌, ◌↔◌, ℕ, ◌+◌, ◌^◌, ◌<◌, ◌≤◌, List, length, max, sym, ◌∙◌, subst, inl, inr, ⊎_elim, arith}
+use Rattle.std.proofs.Common.{◌≡◌, ◌≢◌, ◌⊎◌, ◌↔◌, ℕ, ◌+◌, ◌^◌, ◌<◌, ◌≤◌, List, length, get_or, max, sym, ◌∙◌, subst, inl, inr, ⊎_elim, arith}
 use Rattle.std.specs.List.{HoldsAt}
 use Rattle.std.proofs.lemmas.Bool.{cases_lt}
+use Rattle.std.proofs.lemmas.List.{get_or_default}
+use Rattle.bound_trail.specs.Edges.{blank_lit}
 use Rattle.mix_system.specs.declared.literal.Lit.{Lit}
 use Rattle.mix_system.specs.Bounds.{IsFalseIn}
 use Rattle.clause_search.specs.Settled.{IsSettled}
 use Rattle.clause_search.specs.Watched.{AreLeft, Stands}
-use Rattle.clause_search.specs.Visited.{IsLatest}
+use Rattle.clause_search.specs.Visited.{AreFalseBut, IsLatest}
 use Rattle.clause_search.specs.declared.pairs.Pair.{Pair}
 use Rattle.clause_search.specs.declared.pairs.Latest.{Latest}
 
@@ -121,3 +123,14 @@ latest_stands bounds clause at latest all within is settled =
     (is.rest two.second (omega (arith, two.other.within)) two.other.left))
     (is.rest two.first (omega (arith, two.one.within)) two.one.left))
     settled
+
+pub never_at : (bounds clause : List Lit) (at falls : ℕ) → at < length clause → ((falls ≡ 2 ^ 32) ↔ (¬ IsFalseIn bounds (get_or clause at blank_lit))) → (falls ≡ 2 ^ 32) ↔ IsLeft bounds clause at
+never_at bounds clause at falls h never =
+    (λ e d. subst (λ lit. ¬ IsFalseIn bounds lit) (get_or_default clause at blank_lit d h) (never.0 e), λ left. never.1 (left blank_lit))
+
+pub are_false_next : (bounds clause : List Lit) (other at : ℕ) → at < length clause → AreFalseBut bounds clause other at → IsFalseIn bounds (get_or clause at blank_lit) → AreFalseBut bounds clause other (at + 1)
+are_false_next bounds clause other at h before here k below apart =
+    ⊎_elim
+    (λ first. before k first apart)
+    (λ past. let e : at ≡ k = omega arith in subst (λ n. HoldsAt (IsFalseIn bounds) clause n) e (λ d. subst (IsFalseIn bounds) (get_or_default clause at blank_lit d h) here))
+    (cases_lt k at)

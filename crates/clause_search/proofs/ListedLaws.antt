@@ -1,8 +1,8 @@
 -- What lists of watchers keep when one is put, replaced or taken out.
-use Rattle.std.proofs.Common.{◌≡◌, ◌≢◌, ℕ, ◌+◌, ◌-◌, ◌<◌, ◌≤◌, List, [], ◌∷◌, ◌++◌, length, get_or, set, map, refl, sym, ap, ◌∙◌, subst, ⊎_elim, arith}
+use Rattle.std.proofs.Common.{◌≡◌, ◌≢◌, ℕ, ◌+◌, ◌-◌, ◌<◌, ◌≤◌, List, [], ◌∷◌, ◌++◌, length, get_or, set, map, Result, Ok, Err, OnOk, OnErr, refl, sym, ap, ◌∙◌, subst, ⊎_elim, arith}
 use Rattle.std.specs.Prelude.{Contains}
 use Rattle.std.proofs.lemmas.Bool.{cases_lt, cases_eq}
-use Rattle.std.proofs.lemmas.List.{get_or-set_same, get_or-set_other, length-set, get_or_default, get_or_append_left, length_push}
+use Rattle.std.proofs.lemmas.List.{get_or-set_same, get_or-set_other, length-set, get_or_default, get_or_append_left, length_push, get_or-map, length-map, map-set, set-get_or}
 use Rattle.std.proofs.lemmas.List.Elements.{Contains-push, Contains-append_left}
 use Rattle.clause_search.specs.declared.watch_lists.Watcher.{Watcher}
 use Rattle.clause_search.specs.Watched.{list_at}
@@ -109,3 +109,31 @@ takes lists list at new h within taken =
       fewer = ap (λ ys. length ys + 1) here ∙ taken.fewer;
       before = λ k d below. ap (λ ys. get_or ys k d) here ∙ taken.others k d (λ e. omega arith) (omega arith);
     }
+
+pub takes_after : (list at : ℕ) (old mid new : List (List Watcher)) → Adds old mid → list_at mid list ≡ list_at old list → Takes list at mid new → Takes list at old new
+takes_after list at old mid new adds same t = record {
+  keeps = λ lost is. adds_keeps lost old mid new adds (t.keeps lost (subst (λ xs. lost ≡ get_or xs at lost) (sym same) is));
+  fewer = t.fewer ∙ ap length same;
+  before = λ k d below. t.before k d below ∙ ap (λ xs. get_or xs k d) same;
+}
+
+pub taken_by : (at : ℕ) (old new : List Watcher) (old_length new_length : ℕ) → old_length ≡ length old → new_length ≡ length new → new_length + 1 ≡ old_length
+    → (((d : Watcher) → at + 1 < old_length → get_or new at d ≡ get_or old (old_length - 1) d) × ((k : ℕ) (d : Watcher) → k ≢ at → k + 1 < old_length → get_or new k d ≡ get_or old k d)) → IsTaken at old new
+taken_by at old new old_length new_length same same_new fewer both = record {
+  fewer = omega arith;
+  last = λ d h. both.0 d (omega arith) ∙ ap (λ n. get_or old (n - 1) d) same;
+  others = λ k d apart h. both.1 k d apart (omega arith);
+}
+
+-- the lists that a list of vectors means
+pub here_is : {V : Type 0} (f : V → List Watcher) (inside : List V) (lists : List (List Watcher)) (list : ℕ) (v : V) → map f inside ≡ lists → list < length lists → v ≡ get_or inside list v → f v ≡ list_at lists list
+here_is f inside lists list v view h is =
+    let count = ap length view in
+    let within : list < length inside = omega (arith, length-map inside f) in
+    ap f is ∙ sym (get_or-map f inside list v [] within) ∙ ap (λ xs. get_or xs list []) view
+
+pub changed_view : {V : Type 0} (f : V → List Watcher) (inside : List V) (lists : List (List Watcher)) (list : ℕ) (v : V) → map f inside ≡ lists → map f (set inside list v) ≡ set lists list (f v)
+changed_view f inside lists list v view = map-set f inside list v ∙ ap (λ xs. set xs list (f v)) view
+
+pub same_list : (lists : List (List Watcher)) (list : ℕ) (new : List Watcher) → new ≡ list_at lists list → set lists list new ≡ lists
+same_list lists list new e = ap (λ xs. set lists list xs) e ∙ set-get_or lists list []

@@ -3,7 +3,7 @@ use Rattle.std.proofs.Common.{◌≡◌, ◌≢◌, ◌⊎◌, ℕ, suc, ◌+◌
 use Rattle.std.specs.Prelude.{slice_get, Contains}
 use Rattle.std.specs.List.{HoldsAt}
 use Rattle.std.proofs.lemmas.Bool.{cases_lt, cases_eq}
-use Rattle.std.proofs.lemmas.List.{get_or_default, get_or-set_same, get_or-set_other, length-set, take-append-le}
+use Rattle.std.proofs.lemmas.List.{get_or_default, get_or-set_same, get_or-set_other, get_or_append_left, length-set, take-append-le}
 use Rattle.std.proofs.lemmas.Option.{slice_get_within, slice_get-get_or, get_or_from_slice_get}
 use Rattle.mix_system.specs.declared.literal.Side.{Side}
 use Rattle.mix_system.specs.declared.literal.Side.TheVariants.{Le, Ge}
@@ -23,13 +23,17 @@ use Rattle.clause_search.specs.Search.{Search, present_level, Propagated}
 use Rattle.clause_search.specs.Settled.{IsLeftAt, HasTrue, IsSettled}
 use Rattle.clause_search.specs.Stored.{AreClauses}
 use Rattle.clause_search.specs.Passed.{IsSettledAt}
-use Rattle.clause_search.specs.Watched.{list_at, lit_of, watcher_of, IsListed, AreLeft, Stands, IsWatched, AreWatched}
-use Rattle.clause_search.specs.Visited.{AreFalseBut, KeepsBut, IsOther, IsPartner, IsDone, AreDone, watched_lit}
+use Rattle.clause_search.specs.Watched.{list_at, lit_of, watcher_of, IsListed, AreLeft, Stands, IsWatched, AreWatched, IsRight}
+use Rattle.clause_search.specs.Visited.{AreFalseBut, Adds, KeepsBut, Takes, Replaces, Moves, IsOther, IsPartner, IsDone, AreDone, IsVisiting, Goes, Visits, watched_lit}
 use Rattle.clause_search.specs.declared.pairs.Pair.{Pair}
 use Rattle.clause_search.specs.declared.watch_lists.Watcher.{Watcher}
+use Rattle.clause_search.specs.declared.watches.Watches.{Watches}
+use Rattle.clause_search.specs.declared.watches.Visit.{Visit}
+use Rattle.clause_search.specs.declared.watches.Visit.TheVariants.{Kept, Gone, Stopped}
+use Rattle.clause_search.proofs.PropagationLaws.{propagated_trans}
 use Rattle.clause_search.proofs.WatchLaws.{with_more, in_grown, listed_but, true_weaker}
 
-some_same : {X : Type 0} (x y : X) → Some x ≡ Some y → x ≡ y
+pub some_same : {X : Type 0} (x y : X) → Some x ≡ Some y → x ≡ y
 some_same x y e = cc
 
 -- a watcher that is done stays so
@@ -264,3 +268,95 @@ watched_worked state lists pairs head base list at clauses behind list_is term d
         stood = one.stood;
       };
 }
+
+-- a watcher of a list
+pub hold_at : (P : Watcher → Type 0) (xs : List Watcher) (at : ℕ) (it : Watcher) → at < length xs → it ≡ get_or xs at it → P it → HoldsAt P xs at
+hold_at P xs at it h is p d = subst P (is ∙ get_or_default xs at it d h) p
+
+-- a clause that was settled while all its literals but one were false
+pub settled_done : (old new : Search) (before after : Tally) (count : ℕ) (key : Lit) (watcher : Watcher) (clause : List Lit) (other : ℕ) → Propagated old new before after → slice_get old.store watcher.number ≡ Some clause → AreFalseBut (box old.trail) clause other (length clause) → IsSettledAt new watcher.number → IsDone new count key watcher
+settled_done old new before after count key watcher clause other p among all settled =
+    subst (λ s. IsSettledAt s watcher.number → IsDone s count key watcher) (sym p.lits) (λ here.
+    let state = with_more old p.added in
+    let same : here.clause ≡ clause = some_same here.clause clause (sym here.among ∙ among) in
+    done_true state count key watcher clause among (settled_true old p.added clause other all (subst (IsSettled (box state.trail)) same here.settled))) settled
+
+-- a move
+moves_keep : (visit : Visit) (list at target : ℕ) (lost moved : Watcher) (old new : List (List Watcher)) → at < length (list_at old list) → lost ≡ get_or (list_at old list) at lost → Moves visit list at target moved old new → KeepsBut lost old new × Contains (list_at new target) moved
+moves_keep Kept list at target lost moved old new h is moves =
+    let there : Contains (list_at new list) moved = (at, omega (arith, moves.1.as_many), moves.1.there moved) in
+    (moves.1.keeps lost is, subst (λ n. Contains (list_at new n) moved) (sym moves.0) there)
+moves_keep Gone list at target lost moved old new h is moves = (moves.0.keeps lost is, moves.1)
+moves_keep (Stopped spread) list at target lost moved old new h is moves = absurd moves
+
+pub moved_right : (state : Search) (was now : Watches) (visit : Visit) (list at target : ℕ) (lost moved : Watcher) (other free : ℕ) (clause : List Lit) → IsRight state was → at < length (list_at was.lists list) → lost ≡ get_or (list_at was.lists list) at lost → IsPartner was.pairs.items lost other → slice_get state.store lost.number ≡ Some clause → IsFree state clause other free
+    → moved ≡ watcher_of lost.number clause free → target ≡ place_of (length state.trail.ranges) (lit_of clause free).term (lit_of clause free).side → Moves visit list at target moved was.lists now.lists
+    → now.pairs.items ≡ set was.pairs.items moved.number (record { first = other; second = moved.at }) → now.head ≡ was.head → now.base ≡ was.base → IsRight state now
+moved_right state was now visit list at target lost moved other free clause right h is partner among is_free moved_is target_is moves paired head base =
+    let keeps = moves_keep visit list at target lost moved was.lists now.lists h is moves in
+    let it = watcher_of lost.number clause free in
+    let there : Contains (list_at now.lists target) it = subst (λ (x : Watcher). Contains (list_at now.lists target) x) moved_is keeps.1 in
+    let listed : IsListed (length state.trail.ranges) now.lists lost.number clause free = record {
+      within = is_free.left.within;
+      among = subst (λ (n : ℕ). Contains (list_at now.lists n) it) target_is there;
+    } in
+    let below = slice_get_within was.pairs.items lost.number partner.pair partner.paired in
+    let known = partner_known state was.lists was.pairs.items was.head was.base lost other clause right partner among in
+    let pairs : now.pairs.items ≡ set was.pairs.items lost.number (record { first = other; second = free }) = paired ∙ ap (λ (x : Watcher). set was.pairs.items x.number (record { first = other; second = x.at })) moved_is in
+    let result = watched_moved state was.lists now.lists was.pairs.items was.head was.base lost other free clause right known keeps.0 is_free listed below in
+    subst (λ xs. AreWatched state now.lists xs now.head now.base) (sym pairs)
+    (subst (λ n. AreWatched state now.lists (set was.pairs.items lost.number (record { first = other; second = free })) n now.base) (sym head)
+    (subst (λ n. AreWatched state now.lists (set was.pairs.items lost.number (record { first = other; second = free })) was.head n) (sym base) result))
+
+pub moved_visits : (visit : Visit) (state : Search) (was now : Watches) (list at target : ℕ) (key : Lit) (moved : Watcher) (tally : Tally) → Moves visit list at target moved was.lists now.lists → now.head ≡ was.head → AreDone state (was.head + 1) key (list_at was.lists list) at → (target ≡ list → IsDone state (was.head + 1) key moved) → Visits visit list at key state was now tally
+moved_visits Kept state was now list at target key moved tally moves head done here =
+    let new = list_at now.lists list in
+    let before = are_done_same state (was.head + 1) key (list_at was.lists list) new at moves.1.before done in
+    let all = are_done_next state (was.head + 1) key new at before (λ d. subst (IsDone state (was.head + 1) key) (sym (moves.1.there d)) (here moves.0)) in
+    (moves.1.as_many, subst (λ n. AreDone state (n + 1) key new (at + 1)) (sym head) all)
+moved_visits Gone state was now list at target key moved tally moves head done here =
+    let new = list_at now.lists list in
+    let before = are_done_same state (was.head + 1) key (list_at was.lists list) new at moves.0.before done in
+    (moves.0.fewer, subst (λ n. AreDone state (n + 1) key new at) (sym head) before)
+moved_visits (Stopped spread) state was now list at target key moved tally moves head done here = absurd moves
+
+pub free_done : (state : Search) (count : ℕ) (key : Lit) (list target number free : ℕ) (clause : List Lit) (moved : Watcher) → IsClause (length state.trail.ranges) state.trail.rows clause → Exists (length state.trail.ranges) state.trail.rows key.term → list ≡ place_of (length state.trail.ranges) key.term key.side → target ≡ place_of (length state.trail.ranges) (lit_of clause free).term (lit_of clause free).side → moved ≡ watcher_of number clause free → IsLeftAt (box state.trail) clause free → target ≡ list → IsDone state count key moved
+free_done state count key list target number free clause moved known term list_is target_is moved_is left e =
+    let lit = lit_of clause free in
+    let exists : Exists (length state.trail.ranges) state.trail.rows lit.term = known.known free blank_lit left.within in
+    let same = same_place (length state.trail.ranges) state.trail.rows lit.term key.term lit.side key.side exists term (sym target_is ∙ e ∙ list_is) in
+    let lit_is : watched_lit key moved.bound ≡ lit = ap (λ (x : Watcher). watched_lit key x.bound) moved_is ∙ same_lit key lit same.0 same.1 in
+    done_left state count key moved (λ is_false. left.left blank_lit (subst (IsFalseIn (box state.trail)) lit_is is_false))
+
+-- visits one after another
+pub goes_both : (a b c : Search) (x y z : Watches) (s t u : Tally) → Goes a b x y s t → Goes b c y z t u → Goes a c x z s u
+goes_both a b c x y z s t u one two = record {
+  propagated = propagated_trans a b c s t u one.propagated two.propagated;
+  right = two.right;
+  same_head = two.same_head ∙ one.same_head;
+  same_count = two.same_count ∙ one.same_count;
+}
+
+pub visiting_more : (old new : Search) (was now : Watches) (before after : Tally) (key : Lit) (list at next : ℕ) → Goes old new was now before after → IsVisiting old was key list at → AreDone new (now.head + 1) key (list_at now.lists list) next → IsVisiting new now key list next
+visiting_more old new was now before after key list at next goes v done =
+    let p = goes.propagated in
+    let count : length new.trail.lits ≡ length old.trail.lits + length p.added = ap (λ (s : Search). length s.trail.lits) p.lits ∙ length-append old.trail.lits p.added in
+    record {
+      term = subst (λ (s : Search). Exists (length s.trail.ranges) s.trail.rows key.term) (sym p.lits) v.term;
+      list_is = subst (λ (s : Search). list ≡ place_of (length s.trail.ranges) key.term key.side) (sym p.lits) v.list_is;
+      behind = omega (arith, goes.same_head, v.behind);
+      done = done;
+    }
+
+pub worked_right : (old state : Search) (was it : Watches) (before after : Tally) (key : Lit) (list at : ℕ) → Goes old state was it before after → AreClauses old → was.head < length old.trail.lits → key ≡ negation (get_or old.trail.lits was.head blank_lit) → IsVisiting state it key list at → length (list_at it.lists list) ≤ at → AreWatched state it.lists it.pairs.items (it.head + 1) it.base
+worked_right old state was it before after key list at goes clauses behind key_is v all =
+    let p = goes.propagated in
+    let clauses_now : AreClauses state = subst AreClauses (sym p.lits) (record { each = clauses.each; few = clauses.few }) in
+    let put : get_or state.trail.lits it.head blank_lit ≡ get_or old.trail.lits was.head blank_lit =
+    ap (λ (s : Search). get_or s.trail.lits it.head blank_lit) p.lits ∙ ap (λ n. get_or (old.trail.lits ++ p.added) n blank_lit) goes.same_head ∙ get_or_append_left old.trail.lits p.added blank_lit was.head behind in
+    let same : key ≡ negation (get_or state.trail.lits it.head blank_lit) = key_is ∙ ap negation (sym put) in
+    watched_worked state it.lists it.pairs.items it.head it.base list at clauses_now v.behind
+    (subst (λ (k : Lit). list ≡ place_of (length state.trail.ranges) k.term k.side) same v.list_is)
+    (subst (λ (k : Lit). Exists (length state.trail.ranges) state.trail.rows k.term) same v.term)
+    (subst (λ (k : Lit). AreDone state (it.head + 1) k (list_at it.lists list) at) same v.done)
+    all goes.right

@@ -3,24 +3,26 @@ use Rattle.std.proofs.Common.{◌≡◌, ◌≢◌, ◌⊎◌, ℕ, suc, ◌+◌
 use Rattle.std.specs.Prelude.{slice_get, Contains}
 use Rattle.std.specs.List.{HoldsAt}
 use Rattle.std.proofs.lemmas.Bool.{cases_lt, cases_eq}
+use Rattle.bound_trail.specs.Edges.{place_of, blank_lit}
 use Rattle.std.proofs.lemmas.List.{get_or_append_left, get_or_push, get_or_default, get_or-set_same, get_or-set_other, length-set, length_push, length-take-le, take-append-le, take-take, take_at, get_or_past}
 use Rattle.std.proofs.lemmas.Option.{slice_get_within, slice_get-get_or, get_or_from_slice_get}
 use Rattle.mix_system.specs.declared.literal.Lit.{Lit}
 use Rattle.mix_system.specs.declared.tally.Tally.{Tally}
 use Rattle.mix_system.specs.Bounds.{Entails, IsIn, IsFalseIn, range_bounds}
 use Rattle.mix_system.specs.Lit.{negation}
-use Rattle.bound_trail.specs.Trail.{Trail, box, box_with, box_at, level_end, IsTrail}
+use Rattle.bound_trail.specs.Trail.{Trail, box, box_with, box_at, level_end, IsCause, IsTrail}
 use Rattle.bound_trail.proofs.AnywhereLaws.{any_left, any_right, any_append_cases, any_weaker}
 use Rattle.bound_trail.proofs.TrailLaws.{box_is}
 use Rattle.bound_trail.proofs.BoxLaws.{in_more, in_box}
 use Rattle.clause_search.specs.Search.{Search, present_level, Propagated}
 use Rattle.clause_search.specs.Settled.{IsLeftAt, LeavesTwo, HasTrue, IsSettled}
-use Rattle.clause_search.specs.Watched.{list_at, lit_of, watcher_of, IsListed, AreLeft, Stands, IsWatched, AreWatched}
+use Rattle.clause_search.specs.Watched.{list_at, lit_of, watcher_of, IsListed, AreListed, AreLeft, Stands, IsWatched, AreWatched}
 use Rattle.clause_search.specs.Visited.{Adds, KeepsBut, IsOther, IsNeither, IsDone, AreDone}
 use Rattle.clause_search.specs.declared.pairs.Pair.{Pair}
 use Rattle.clause_search.specs.declared.watch_lists.Watcher.{Watcher}
 use Rattle.clause_search.proofs.LearntLaws.{ends_rise}
 use Rattle.clause_search.proofs.ReasonLaws.{slice_get_more, level_end_within}
+use Rattle.clause_search.proofs.ListedLaws.{put_there}
 use Rattle.clause_search.proofs.QuietLaws.{cut_to, same_end, same_end_only, same_cut}
 
 -- what isn't false by more bounds isn't false by fewer
@@ -334,3 +336,27 @@ watched_quiet state lists pairs head base all at_end w k d h =
     let whole : box_with state.trail head ≡ box state.trail = ap (box_with state.trail) e ∙ box_is state.trail in
     let settled : IsSettled (box state.trail) one.clause = ⊎_elim (λ t. inl t) (λ l. inr (leaves_two (box state.trail) one.clause one.pair (subst (λ bounds. AreLeft bounds one.clause one.pair) whole l))) one.stands in
     subst (IsSettled (box state.trail)) (sym (get_or_from_slice_get state.store k one.clause d one.among)) settled
+
+-- a literal that became false on the present level wasn't false at the end of a lower one
+pub was_left_below : (trail : Trail) (lit : Lit) (place level : ℕ) → IsTrail trail → IsCause trail lit place → get_or trail.levels (length trail.levels - 1) 0 ≤ place → level < length trail.levels → IsFalseIn (box_at trail level) lit → ⊥
+was_left_below trail lit place level ok cause from below is_false =
+    let last = length trail.levels - 1 in
+    let end : level_end trail last ≡ get_or trail.levels last 0 = get_or_default trail.levels last (length trail.lits) 0 (omega arith) in
+    let rises = ends_rise trail level last ok (omega arith) in
+    cause.first (in_more trail (level_end trail level) place (negation lit) (omega arith) is_false)
+
+pub left_at : (bounds clause : List Lit) (at : ℕ) → at < length clause → (IsFalseIn bounds (get_or clause at blank_lit) → ⊥) → IsLeftAt bounds clause at
+left_at bounds clause at h left = record { within = h; left = λ d. subst (λ lit. ¬ IsFalseIn bounds lit) (get_or_default clause at blank_lit d h) left }
+
+-- the literal's list has its watcher
+pub listed_put : {T E : Type 0} (r : Result T E) (vars : ℕ) (old new : List (List Watcher)) (number : ℕ) (clause : List Lit) (at list : ℕ) → at < length clause → list ≡ place_of vars (lit_of clause at).term (lit_of clause at).side → list < length old → OnOk r (new ≡ set old list (list_at old list ++ watcher_of number clause at ∷ [])) → OnOk r (IsListed vars new number clause at)
+listed_put (Ok x) vars old new number clause at list h is within e = record {
+  within = h;
+  among = subst (λ (n : ℕ). Contains (list_at new n) (watcher_of number clause at)) is (subst (λ lists. Contains (list_at lists list) (watcher_of number clause at)) (sym e) (put_there old list (watcher_of number clause at) within));
+}
+listed_put (Err x) vars old new number clause at list h is within e = tt
+
+-- both literals of a pair
+pub pair_listed : {T E : Type 0} (r : Result T E) (vars : ℕ) (mid new : List (List Watcher)) (number : ℕ) (clause : List Lit) (pair : Pair) → Adds mid new → IsListed vars mid number clause pair.first → OnOk r (IsListed vars new number clause pair.second) → OnOk r (AreListed vars new number clause pair)
+pair_listed (Ok x) vars mid new number clause pair adds first second = λ apart. (listed_more vars mid new number clause pair.first adds first, second)
+pair_listed (Err x) vars mid new number clause pair adds first second = tt

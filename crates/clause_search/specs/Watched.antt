@@ -24,6 +24,11 @@ pub record IsListed (vars : ℕ) (lists : List (List Watcher)) (number : ℕ) (c
   pub within : at < length clause
   pub among : Contains (list_at lists (place_of vars (lit_of clause at).term (lit_of clause at).side)) (watcher_of number clause at)
 
+-- both are, where the pair has two
+abbrev pub AreListed : ℕ → List (List Watcher) → ℕ → List Lit → Pair → Type 0
+AreListed vars lists number clause pair =
+    pair.first ≢ pair.second → IsListed vars lists number clause pair.first × IsListed vars lists number clause pair.second
+
 -- the clause has two watched literals, and neither is false
 pub record AreLeft (bounds clause : List Lit) (pair : Pair) : Type 0 where
   pub apart : pair.first ≢ pair.second
@@ -40,7 +45,7 @@ pub record IsWatched (state : Search) (lists : List (List Watcher)) (pairs : Lis
   pub pair : Pair
   pub among : slice_get state.store number ≡ Some clause
   pub paired : slice_get pairs number ≡ Some pair
-  pub listed : pair.first ≢ pair.second → IsListed (length state.trail.ranges) lists number clause pair.first × IsListed (length state.trail.ranges) lists number clause pair.second
+  pub listed : AreListed (length state.trail.ranges) lists number clause pair
   pub stands : Stands (box state.trail) (box_with state.trail head) clause pair
   pub stood : (level : ℕ) → base ≤ level → level < present_level state → Stands (box_at state.trail level) (box_at state.trail level) clause pair
 

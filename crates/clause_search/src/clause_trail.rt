@@ -149,6 +149,7 @@ impl ClauseTrail {
     /// Gives up all levels above one, and their literals. It takes no memory.
     pub(crate) fn back_to(&mut self, level: u32)
         requires { level ≤ length self.old.trail.levels }
+        ensures sound { IsTrail self.old.trail }
         ensures store { self.new.store ≡ self.old.store }
         ensures trail { self.new.trail ≡ record self.old.trail
             { lits = take (level_end self.old.trail level) self.old.trail.lits; levels = take level self.old.trail.levels } }

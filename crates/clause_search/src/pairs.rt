@@ -137,10 +137,15 @@ impl ClauseTrail {
         let Some(place) = self.bounds().cause(lit) else {
             return false;
         };
-        match self.levels().last() {
-            None => true,
-            Some(start) => place >= *start,
+        let levels = self.levels();
+        if levels.len() == 0 {
+            return true;
         }
+        let start = levels[levels.len() - 1];
+        if place < start {
+            return false;
+        }
+        true
     }
 }
 

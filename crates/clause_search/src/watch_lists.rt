@@ -1,7 +1,8 @@
-ghost use Rattle.std.specs.Prelude.{◌≡◌, ◌<◌, [], ◌∷◌, ◌++◌, length, slice_set, slice_index_or, IfOk, OnOk, OnErr};
-ghost use Rattle.clause_search.specs.Watched.{list_at};
-ghost use Rattle.clause_search.specs.Visited.{Takes, Replaces};
+ghost use Rattle.std.specs.Prelude.{◌≡◌, ◌≢◌, ℕ, ◌<◌, [], ◌∷◌, ◌++◌, length, slice_set, slice_index_or, IfOk, OnOk, OnErr};
+ghost use Rattle.clause_search.specs.Watched.{list_at, watcher_of};
+ghost use Rattle.clause_search.specs.Visited.{Takes, Replaces, watched_lit};
 
+use mix_system::Lit;
 use std::alloc::Global;
 use std::marker::Model;
 use wx_base::NoMemory;
@@ -15,6 +16,31 @@ pub struct Watcher {
     pub number: u32,
     /// The literal's place in the clause.
     pub at: usize,
+}
+
+impl Watcher {
+    /// The watcher of a literal of a clause.
+    pub fn of(clause: &[Lit], number: u32, at: usize) -> Watcher
+        requires { at < length clause.now }
+        ensures { result ≡ watcher_of number clause.now at }
+    {
+        Watcher {
+            bound: clause[at].bound,
+            number,
+            at,
+        }
+    }
+
+    /// The literal, where the term and side are those of another one.
+    pub fn literal(&self, key: &Lit) -> Lit
+        ensures { result ≡ watched_lit key.now self.now.bound }
+    {
+        Lit {
+            term: key.term,
+            side: key.side,
+            bound: self.bound,
+        }
+    }
 }
 
 /// A list of watchers for each side of each term. Contracts see the lists.
@@ -84,7 +110,8 @@ impl WatchLists {
     pub fn take(&mut self, list: usize, at: usize)
         requires list { list < length self.old }
         requires within { at < length (list_at self.old list) }
-        ensures { Takes list at self.old self.new }
+        ensures takes { Takes list at self.old self.new }
+        ensures others { (other : ℕ) → other ≢ list → list_at self.new other ≡ list_at self.old other }
     {
         self.lists[list].swap_remove(at);
     }

@@ -6,7 +6,7 @@ ghost use Rattle.clause_search.specs.Settled.{IsLeftAt};
 ghost use Rattle.clause_search.specs.Answers.{Says};
 ghost use Rattle.clause_search.specs.Decided.{Decides};
 ghost use Rattle.clause_search.specs.Passed.{IsSettledAt};
-ghost use Rattle.clause_search.specs.Watched.{list_at, IsListed, IsRight};
+ghost use Rattle.clause_search.specs.Watched.{list_at, IsListed, AreListed, IsRight};
 ghost use Rattle.clause_search.specs.Visited.{AreFalseBut, IsPartner, IsStale, Adds, Moves, IsVisiting, Goes, Visits, Works, Looks};
 ghost use Rattle.std.specs.List.{HoldsAt};
 
@@ -172,10 +172,7 @@ impl Watches {
     {
         let clause = known.clause(number);
         let pair = known.latest_two(clause);
-        if pair.first != pair.second {
-            list(&mut self.lists, known, clause, number, pair.first)?;
-            list(&mut self.lists, known, clause, number, pair.second)?;
-        }
+        list_pair(&mut self.lists, known, clause, number, pair)?;
         self.pairs.push(pair)?;
         if !known.were_left(clause, pair) {
             self.base = known.levels().len();
@@ -227,11 +224,7 @@ impl Watches {
         ensures visits { IfOk result (λ visit. Visits visit list at key.now known.new self.old self.new tally.new) }
     {
         let watcher = self.lists.get(list, at);
-        let lit = Lit {
-            term: key.term,
-            side: key.side,
-            bound: watcher.bound,
-        };
+        let lit = watcher.literal(key);
         if !known.is_false(&lit) {
             return Ok(Visit::Kept);
         }
@@ -272,13 +265,10 @@ impl Watches {
             return Ok(Visit::Stopped(spread));
         };
         let lit = clause[free];
-        let moved = Watcher {
-            bound: lit.bound,
-            number: watcher.number,
-            at: free,
-        };
         let target = known.bounds().place(lit.term, lit.side);
-        self.move_to(list, at, target, moved, other)
+        let moved = Watcher::of(clause, watcher.number, free);
+        let visit = self.move_to(list, at, target, moved, other)?;
+        Ok(visit)
     }
 
     // The other watched literal of a watcher's clause, if its own is watched.
@@ -327,6 +317,27 @@ impl Watches {
     }
 }
 
+// Puts two literals of a clause, where they are different, into the lists of their terms and sides.
+fn list_pair(
+    lists: &mut WatchLists,
+    known: &ClauseTrail,
+    clause: &[Lit],
+    number: u32,
+    pair: Pair,
+) -> Result<(), NoMemory>
+    requires known { All (λ lit. Exists (length known.now.trail.ranges) known.now.trail.rows lit.term) clause.now }
+    requires within { pair.first ≢ pair.second → (pair.first < length clause.now) × (pair.second < length clause.now) }
+    requires places { length lists.old ≡ 2 * (length known.now.trail.ranges + known.now.trail.rows) }
+    ensures adds { Adds lists.old lists.new }
+    ensures listed { OnOk result (AreListed (length known.now.trail.ranges) lists.new number clause.now pair) }
+{
+    if pair.first == pair.second {
+        return Ok(());
+    }
+    list(lists, known, clause, number, pair.first)?;
+    list(lists, known, clause, number, pair.second)
+}
+
 // Puts a literal of a clause into the list of its term and side.
 fn list(
     lists: &mut WatchLists,
@@ -342,12 +353,9 @@ fn list(
     ensures listed { OnOk result (IsListed (length known.now.trail.ranges) lists.new number clause.now at) }
 {
     let lit = clause[at];
-    let watcher = Watcher {
-        bound: lit.bound,
-        number,
-        at,
-    };
-    lists.put(known.bounds().place(lit.term, lit.side), watcher)
+    let target = known.bounds().place(lit.term, lit.side);
+    let watcher = Watcher::of(clause, number, at);
+    lists.put(target, watcher)
 }
 
 // A place of a clause but one whose literal isn't false.

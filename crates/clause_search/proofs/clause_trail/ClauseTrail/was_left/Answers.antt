@@ -1,15 +1,30 @@
-use Rattle.std.proofs.Common.{rules, ◌≡◌, ◌≢◌, ℕ, ◌+◌, ◌^◌, ◌<◌, ◌≤◌, ◌↔◌, List, length, slice_index_or, All, IsTrue, MatchOption, ◌-◌, ◌*◌, ◌/◌, ◌%◌, Bool, true, false, nat_eq, nat_lt, [], ◌∷◌, ◌++◌, slice_set, bit_and, bit_or, Fits, w8, w32, w64, Bor, MutBor}
-use Rattle.std.specs.List.{HoldsAt}
-use Rattle.mix_system.specs.declared.literal.Lit.{Lit as Literal}
+use Rattle.std.proofs.Common.{◌≡◌, ◌≢◌, ◌+◌, ◌-◌, ◌*◌, ◌<◌, ◌≤◌, ℕ, List, [], ◌∷◌, ◌++◌, length, get_or, set, Option, Some, None, OnOk, refl, sym, ap, ◌∙◌, subst, inl, inr, rules, arith, Fits, w64}
+use Rattle.std.specs.Prelude.{slice_get}
+use Rattle.std.proofs.lemmas.Bool.{false≢true}
+use Rattle.std.proofs.lemmas.Option.{slice_get_within}
+use Rattle.mix_system.specs.declared.literal.Lit.{Lit}
 use Rattle.mix_system.specs.System.{Exists}
 use Rattle.mix_system.specs.Bounds.{IsFalseIn}
-use Rattle.bound_trail.specs.Trail.{box, box_at}
-use Rattle.clause_search.specs.Search.{present_level}
-use Rattle.clause_search.specs.Settled.{IsSettled}
-use Rattle.clause_search.specs.Watched.{AreLeft, Stands}
-use Rattle.clause_search.specs.Visited.{IsOther, IsNeither, IsLatest}
+use Rattle.bound_trail.specs.Edges.{place_of, blank_lit}
+use Rattle.bound_trail.specs.Trail.{Trail, box, IsCause, IsTrail}
+use Rattle.clause_search.specs.Search.{Search, Propagated, present_level}
+use Rattle.clause_search.specs.Settled.{IsLeftAt, IsSettled}
+use Rattle.clause_search.specs.Passed.{IsSettledAt, Settles}
+use Rattle.clause_search.specs.Watched.{list_at, lit_of, watcher_of, AreListed, Stands, AreWatched}
+use Rattle.clause_search.specs.Visited.{AreFalseBut, IsPartner, IsDone, Goes, Visits, watched_lit}
+use Rattle.clause_search.specs.declared.watch_lists.Watcher.{Watcher}
+use Rattle.clause_search.specs.declared.watches.Visit.TheVariants.{Kept, Gone, Stopped}
+use Rattle.clause_search.proofs.PropagationLaws.{propagated_none, propagated_trans}
+use Rattle.clause_search.proofs.WatchLaws.{watched_propagated, watched_adds, watched_next, watched_but, watched_quiet, left_at, listed_put, pair_listed, was_left_below}
+use Rattle.clause_search.proofs.VisitLaws.{IsKnown, IsFree, some_same, are_done_next, are_done_same, are_done_propagated, partner_known, partner_number, true_at, done_true, done_left, hold_at, settled_done, moved_right, moved_visits, free_done, goes_both, visiting_more, worked_right}
 use Rattle.clause_search.proofs.clause_trail.ClauseTrail.was_left.Goals as goal
 
--- src/pairs.rt:130:5
-pub returns-in-Some-last : goal.returns-in-Some-last
-returns-in-Some-last c = ?
+pub returns : goal.returns
+returns c left level below =
+    let trail = c.args.self.now.trail in
+    let lit = c.args.lit.now in
+    let place = c.in-Some.place in
+    let from : get_or c.levels-levels.result.now (length c.levels-levels.result.now - 1) 0 ≤ place = c.if-place-start.false in
+    was_left_below trail lit place level c.levels-levels.ensures.trail
+    (subst (λ (t : Trail). IsCause t lit place) c.bounds.ensures.trail c.in-Some.ensures)
+    (subst (λ xs. get_or xs (length xs - 1) 0 ≤ place) c.levels-levels.ensures.levels from) below
