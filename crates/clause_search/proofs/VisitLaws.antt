@@ -177,19 +177,19 @@ watched_moved state old new pairs head base lost other free clause w known keeps
             among = one.among;
             paired = same_pair pairs lost.number number pair one.pair e one.paired;
             listed = λ apart. let both = one.listed apart in (
-                listed_but _ old new lost number one.clause one.pair.first keeps (λ n f. e n) both.0,
-                listed_but _ old new lost number one.clause one.pair.second keeps (λ n f. e n) both.1,
-              );
+              listed_but _ old new lost number one.clause one.pair.first keeps (λ n f. e n) both.0,
+              listed_but _ old new lost number one.clause one.pair.second keeps (λ n f. e n) both.1,
+            );
             stands = one.stands;
             stood = one.stood;
           })
           (cases_eq number lost.number);
     }
   where
-  same_pair : (xs : List Pair) (at k : ℕ) (new x : Pair) → k ≢ at → slice_get xs k ≡ Some x → slice_get (set xs at new) k ≡ Some x
-  same_pair xs at k new x apart e =
-      let h = slice_get_within xs k x e in
-      slice_get-get_or (set xs at new) k x (omega (arith, length-set xs at new)) ∙ ap Some (get_or-set_other xs at k new x apart ∙ get_or_from_slice_get xs k x x e)
+    same_pair : (xs : List Pair) (at k : ℕ) (new x : Pair) → k ≢ at → slice_get xs k ≡ Some x → slice_get (set xs at new) k ≡ Some x
+    same_pair xs at k new x apart e =
+        let h = slice_get_within xs k x e in
+        slice_get-get_or (set xs at new) k x (omega (arith, length-set xs at new)) ∙ ap Some (get_or-set_other xs at k new x apart ∙ get_or_from_slice_get xs k x x e)
 
 -- the literal at the head was worked: a watched literal that it made false was found in the list
 same_lit : (key lit : Lit) → lit.term ≡ key.term → lit.side ≡ key.side → watched_lit key lit.bound ≡ lit
@@ -201,9 +201,9 @@ falls_in_list vars put lit e =
     let term : lit.term ≡ put.term = sym e.same_term in
     ap (λ t. place_of vars t lit.side) term ∙ ap (λ s. place_of vars put.term s) side
   where
-  other_back : (side : Side) → side ≡ other_side (other_side side)
-  other_back Le = refl
-  other_back Ge = refl
+    other_back : (side : Side) → side ≡ other_side (other_side side)
+    other_back Le = refl
+    other_back Ge = refl
 
 still_left : (state : Search) (lists : List (List Watcher)) (head list at number i : ℕ) (clause : List Lit) → AreClauses state → head < length state.trail.lits → list ≡ place_of (length state.trail.ranges) (negation (get_or state.trail.lits head blank_lit)).term (negation (get_or state.trail.lits head blank_lit)).side
     → Exists (length state.trail.ranges) state.trail.rows (get_or state.trail.lits head blank_lit).term

@@ -59,14 +59,14 @@ watched_add state clause lists pairs head base w =
       head_within = w.head_within;
       base_within = w.base_within;
       each = λ number below. let one = w.each number below in record {
-          clause = one.clause;
-          pair = one.pair;
-          among = slice_get_more state.store (clause ∷ []) number one.clause one.among;
-          paired = one.paired;
-          listed = one.listed;
-          stands = one.stands;
-          stood = one.stood;
-        };
+        clause = one.clause;
+        pair = one.pair;
+        among = slice_get_more state.store (clause ∷ []) number one.clause one.among;
+        paired = one.paired;
+        listed = one.listed;
+        stands = one.stands;
+        stood = one.stood;
+      };
     }
 
 pub watched_added : {T E : Type 0} (r : Result T E) (old new : Search) (clause : List Lit) (lists : List (List Watcher)) (pairs : List Pair) (head base : ℕ) → OnOk r (new ≡ record old { store = old.store ++ clause ∷ [] }) → OnErr r (new ≡ old) → AreWatched old lists pairs head base → AreWatched new lists pairs head base
@@ -100,17 +100,17 @@ watched_more state added lists pairs head base ok w = record {
   head_within = omega (arith, w.head_within, length-append state.trail.lits added);
   base_within = w.base_within;
   each = λ number below. let one = w.each number below in record {
-      clause = one.clause;
-      pair = one.pair;
-      among = one.among;
-      paired = one.paired;
-      listed = one.listed;
-      stands = ⊎_elim
-          (λ t. inl (true_weaker (box state.trail) (box (with_more state added).trail) one.clause (in_grown state added) t))
-          (λ l. inr (subst (λ bounds. AreLeft bounds one.clause one.pair) (sym (same_before state added head w.head_within)) l))
-          one.stands;
-      stood = λ level from under. subst (λ bounds. Stands bounds bounds one.clause one.pair) (sym (same_end_only state.trail added level ok under)) (one.stood level from under);
-    };
+    clause = one.clause;
+    pair = one.pair;
+    among = one.among;
+    paired = one.paired;
+    listed = one.listed;
+    stands = ⊎_elim
+        (λ t. inl (true_weaker (box state.trail) (box (with_more state added).trail) one.clause (in_grown state added) t))
+        (λ l. inr (subst (λ bounds. AreLeft bounds one.clause one.pair) (sym (same_before state added head w.head_within)) l))
+        one.stands;
+    stood = λ level from under. subst (λ bounds. Stands bounds bounds one.clause one.pair) (sym (same_end_only state.trail added level ok under)) (one.stood level from under);
+  };
 }
 
 pub watched_propagated : (old new : Search) (before after : Tally) (lists : List (List Watcher)) (pairs : List Pair) (head base : ℕ) → IsTrail old.trail → Propagated old new before after → AreWatched old lists pairs head base → AreWatched new lists pairs head base
@@ -163,17 +163,17 @@ watched_decided state lit lists pairs head base new ok is w =
       head_within = omega (arith, w.head_within, length_push trail.lits lit);
       base_within = omega (arith, rises.1);
       each = λ number below. let one = w.each number below in record {
-          clause = one.clause;
-          pair = one.pair;
-          among = one.among;
-          paired = one.paired;
-          listed = one.listed;
-          stands = ⊎_elim
-              (λ t. inl (true_weaker (box trail) (box (with_level state lit).trail) one.clause (in_grown state (lit ∷ [])) t))
-              (λ l. inr (subst (λ bounds. AreLeft bounds one.clause one.pair) (sym (same_before state (lit ∷ []) head w.head_within)) l))
-              one.stands;
-          stood = λ level from under. stood_decided state lit head base new one.clause one.pair ok is one.stands one.stood rises.0 level from (omega arith);
-        };
+        clause = one.clause;
+        pair = one.pair;
+        among = one.among;
+        paired = one.paired;
+        listed = one.listed;
+        stands = ⊎_elim
+            (λ t. inl (true_weaker (box trail) (box (with_level state lit).trail) one.clause (in_grown state (lit ∷ [])) t))
+            (λ l. inr (subst (λ bounds. AreLeft bounds one.clause one.pair) (sym (same_before state (lit ∷ []) head w.head_within)) l))
+            one.stands;
+        stood = λ level from under. stood_decided state lit head base new one.clause one.pair ok is one.stands one.stood rises.0 level from (omega arith);
+      };
     }
 
 -- going back to a level from the base on
@@ -212,15 +212,15 @@ watched_back old new level lists pairs head less base ok h from lower within sto
       head_within = omega arith;
       base_within = omega arith;
       each = λ number below. let one = w.each number below in record {
-          clause = one.clause;
-          pair = one.pair;
-          among = one.among;
-          paired = one.paired;
-          listed = one.listed;
-          stands = stands_back old.trail level head less one.clause one.pair ok h lower within one.stands (λ under. one.stood level from under);
-          stood = λ earlier at_least under. let below_level : earlier < level = omega arith in
-              subst (λ bounds. Stands bounds bounds one.clause one.pair) (sym (same_cut old.trail level earlier ok h below_level)) (one.stood earlier at_least (omega arith));
-        };
+        clause = one.clause;
+        pair = one.pair;
+        among = one.among;
+        paired = one.paired;
+        listed = one.listed;
+        stands = stands_back old.trail level head less one.clause one.pair ok h lower within one.stands (λ under. one.stood level from under);
+        stood = λ earlier at_least under. let below_level : earlier < level = omega arith in
+            subst (λ bounds. Stands bounds bounds one.clause one.pair) (sym (same_cut old.trail level earlier ok h below_level)) (one.stood earlier at_least (omega arith));
+      };
     } in
     subst (λ s. AreWatched s lists pairs less base) (sym same) watched
 
@@ -238,14 +238,14 @@ watched_adds state old new pairs head base adds w = record {
   head_within = w.head_within;
   base_within = w.base_within;
   each = λ number below. let one = w.each number below in record {
-      clause = one.clause;
-      pair = one.pair;
-      among = one.among;
-      paired = one.paired;
-      listed = λ apart. let both = one.listed apart in (listed_more _ old new number one.clause one.pair.first adds both.0, listed_more _ old new number one.clause one.pair.second adds both.1);
-      stands = one.stands;
-      stood = one.stood;
-    };
+    clause = one.clause;
+    pair = one.pair;
+    among = one.among;
+    paired = one.paired;
+    listed = λ apart. let both = one.listed apart in (listed_more _ old new number one.clause one.pair.first adds both.0, listed_more _ old new number one.clause one.pair.second adds both.1);
+    stands = one.stands;
+    stood = one.stood;
+  };
 }
 
 -- one watcher fewer, which no pair asks for
@@ -262,18 +262,18 @@ watched_but state old new pairs head base lost keeps stale w = record {
   head_within = w.head_within;
   base_within = w.base_within;
   each = λ number below. let one = w.each number below in record {
-      clause = one.clause;
-      pair = one.pair;
-      among = one.among;
-      paired = one.paired;
-      listed = λ apart. let both = one.listed apart in
-          let neither = λ (e : number ≡ lost.number). stale one.pair (subst (λ n. slice_get pairs n ≡ Some one.pair) e one.paired) apart in (
-            listed_but _ old new lost number one.clause one.pair.first keeps (λ e f. (neither e).0 (sym f)) both.0,
-            listed_but _ old new lost number one.clause one.pair.second keeps (λ e f. (neither e).1 (sym f)) both.1,
-          );
-      stands = one.stands;
-      stood = one.stood;
-    };
+    clause = one.clause;
+    pair = one.pair;
+    among = one.among;
+    paired = one.paired;
+    listed = λ apart. let both = one.listed apart in
+        let neither = λ (e : number ≡ lost.number). stale one.pair (subst (λ n. slice_get pairs n ≡ Some one.pair) e one.paired) apart in (
+          listed_but _ old new lost number one.clause one.pair.first keeps (λ e f. (neither e).0 (sym f)) both.0,
+          listed_but _ old new lost number one.clause one.pair.second keeps (λ e f. (neither e).1 (sym f)) both.1,
+        );
+    stands = one.stands;
+    stood = one.stood;
+  };
 }
 
 -- a settled clause is watched from now on
@@ -313,10 +313,10 @@ watched_next state lists pairs head base new clause pair among listed stands lev
           (cases_lt number (length pairs));
     }
   where
-  slice_get_pair : (xs : List Pair) (x : Pair) (at : ℕ) (y : Pair) → slice_get xs at ≡ Some y → slice_get (xs ++ x ∷ []) at ≡ Some y
-  slice_get_pair xs x at y e =
-      let h = slice_get_within xs at y e in
-      slice_get-get_or (xs ++ x ∷ []) at y (omega (arith, length_push xs x)) ∙ ap Some (get_or_append_left xs (x ∷ []) y at h ∙ get_or_from_slice_get xs at y y e)
+    slice_get_pair : (xs : List Pair) (x : Pair) (at : ℕ) (y : Pair) → slice_get xs at ≡ Some y → slice_get (xs ++ x ∷ []) at ≡ Some y
+    slice_get_pair xs x at y e =
+        let h = slice_get_within xs at y e in
+        slice_get-get_or (xs ++ x ∷ []) at y (omega (arith, length_push xs x)) ∙ ap Some (get_or_append_left xs (x ∷ []) y at h ∙ get_or_from_slice_get xs at y y e)
 
 -- every clause asks for nothing where all are watched and the trail was worked to its end
 leaves_two : (bounds clause : List Lit) (pair : Pair) → AreLeft bounds clause pair → LeavesTwo bounds clause

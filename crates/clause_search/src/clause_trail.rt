@@ -40,7 +40,13 @@ impl ClauseTrail {
     pub(crate) fn new(alloc: Global, system: &System) -> Result<ClauseTrail, NoMemory>
         ensures store { IfOk result (λ search_. search_.store ≡ system.now.clauses) }
         ensures trail { IfOk result
-            (λ search_. search_.trail ≡ record { ranges = system.now.ranges; rows = length system.now.rows; lits = []; levels = [] }) }
+            (λ search_. search_.trail ≡ record {
+              ranges = system.now.ranges;
+              rows = length
+                  system.now.rows;
+              lits = [];
+              levels = [];
+            }) }
     {
         let trail = BoundTrail::new(alloc, system)?;
         let mut state = ClauseTrail {
@@ -61,7 +67,10 @@ impl ClauseTrail {
     pub(crate) fn add_clause(&mut self, lits: &[Lit]) -> Result<u32, NoMemory>
         requires { IsClause (length self.old.trail.ranges) self.old.trail.rows lits.now }
         ensures number { IfOk result (λ number. number ≡ length self.old.store) }
-        ensures ok { OnOk result (self.new ≡ record self.old { store = self.old.store ++ lits.now ∷ [] }) }
+        ensures ok { OnOk result (self.new ≡ record self.old {
+          store = self.old.store ++ lits.now ∷
+              [];
+        }) }
         ensures err { OnErr result (self.new ≡ self.old) }
     {
         let number = self.clauses.len();
@@ -130,7 +139,8 @@ impl ClauseTrail {
         requires term { Exists (length self.old.trail.ranges) self.old.trail.rows lit.now.term }
         requires inner { IsInner lit.now.bound }
         requires open { IsOpen (box self.old.trail) lit.now }
-        ensures decides { IfOk result (λ decided. Decides decided lit.now self.old self.new tally.old tally.new) }
+        ensures decides { IfOk result (λ decided. Decides decided lit.now self.old self.new
+            tally.old tally.new) }
         ensures ranges { self.new.trail.ranges ≡ self.old.trail.ranges }
         ensures rows { self.new.trail.rows ≡ self.old.trail.rows }
     {
@@ -151,8 +161,10 @@ impl ClauseTrail {
         requires { level ≤ length self.old.trail.levels }
         ensures sound { IsTrail self.old.trail }
         ensures store { self.new.store ≡ self.old.store }
-        ensures trail { self.new.trail ≡ record self.old.trail
-            { lits = take (level_end self.old.trail level) self.old.trail.lits; levels = take level self.old.trail.levels } }
+        ensures trail { self.new.trail ≡ record self.old.trail {
+          lits = take (level_end self.old.trail level) self.old.trail.lits;
+          levels = take level self.old.trail.levels;
+        } }
     {
         self.trail.back_to(level);
         self.reasons.truncate(self.trail.lits().len());
@@ -161,11 +173,21 @@ impl ClauseTrail {
     /// Puts a literal that a clause implies. Where memory is wanting the search stands as before.
     pub(crate) fn imply(&mut self, lit: &Lit, reason: u32) -> Result<(), NoMemory>
         requires reason { IsReason
-            (record self.old { trail = record self.old.trail { lits = self.old.trail.lits ++ lit.now ∷ [] } }) (length self.old.trail.lits) (Some reason) }
+            (record self.old {
+              trail = record self.old.trail {
+                lits = self.old.trail.lits ++
+                    lit.now ∷ [];
+              };
+            }) (length self.old.trail.lits) (Some reason) }
         requires term { Exists (length self.old.trail.ranges) self.old.trail.rows lit.now.term }
         requires inner { IsInner lit.now.bound }
         requires open { IsOpen (box self.old.trail) lit.now }
-        ensures ok { OnOk result (self.new ≡ record self.old { trail = record self.old.trail { lits = self.old.trail.lits ++ lit.now ∷ [] } }) }
+        ensures ok { OnOk result (self.new ≡ record self.old {
+          trail = record self.old.trail {
+            lits
+                = self.old.trail.lits ++ lit.now ∷ [];
+          };
+        }) }
         ensures err { OnErr result (self.new ≡ self.old) }
     {
         let count = self.reasons.len();

@@ -97,10 +97,12 @@ impl ClauseTrail {
         lowest: u32,
         marks: &mut Vec<Mark>,
     ) -> u32
-        requires known { All (λ lit. Exists (length self.now.trail.ranges) self.now.trail.rows lit.term) clause.now }
+        requires known { All (λ lit. Exists
+            (length self.now.trail.ranges) self.now.trail.rows lit.term) clause.now }
         requires one_each { length marks.old.items ≡ length self.now.trail.lits }
         requires lowest { IsLowest start lowest marks.old.items }
-        ensures marks { MarksCauses self.now.trail clause.now (length clause.now) start result marks.old.items marks.new.items }
+        ensures marks { MarksCauses self.now.trail clause.now
+            (length clause.now) start result marks.old.items marks.new.items }
         ensures falls { result ≤ lowest }
     {
         let mut low = lowest;
@@ -119,7 +121,8 @@ impl ClauseTrail {
         requires is_false { IsFalseIn (box self.now.trail) lit.now }
         requires one_each { length marks.old.items ≡ length self.now.trail.lits }
         requires lowest { IsLowest start lowest marks.old.items }
-        ensures marks { MarksCause self.now.trail lit.now start result marks.old.items marks.new.items }
+        ensures marks { MarksCause self.now.trail lit.now start result marks.old.items
+            marks.new.items }
         ensures falls { result ≤ lowest }
     {
         let Some(place) = self.bounds().cause(lit) else {

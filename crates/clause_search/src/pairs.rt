@@ -77,9 +77,12 @@ impl Latest {
 impl ClauseTrail {
     /// The two literals of a clause that became false last, or that aren't false.
     pub(crate) fn latest_two(&self, clause: &[Lit]) -> Pair
-        requires { All (λ lit. Exists (length self.now.trail.ranges) self.now.trail.rows lit.term) clause.now }
-        ensures within { result.first ≢ result.second → (result.first < length clause.now) × (result.second < length clause.now) }
-        ensures stands { IsSettled (box self.now.trail) clause.now → Stands (box self.now.trail) (box self.now.trail) clause.now result }
+        requires { All (λ lit. Exists (length self.now.trail.ranges) self.now.trail.rows lit.term)
+            clause.now }
+        ensures within { result.first ≢ result.second
+            → (result.first < length clause.now) × (result.second < length clause.now) }
+        ensures stands { IsSettled (box self.now.trail) clause.now
+            → Stands (box self.now.trail) (box self.now.trail) clause.now result }
     {
         let mut latest = Latest {
             first: 0,
@@ -113,9 +116,12 @@ impl ClauseTrail {
 
     /// Whether two literals of a clause weren't false at the end of any level below the present one.
     pub(crate) fn were_left(&self, clause: &[Lit], pair: Pair) -> bool
-        requires known { All (λ lit. Exists (length self.now.trail.ranges) self.now.trail.rows lit.term) clause.now }
-        requires within { pair.first ≢ pair.second → (pair.first < length clause.now) × (pair.second < length clause.now) }
-        ensures { IsTrue result → (level : ℕ) → level < present_level self.now → AreLeft (box_at self.now.trail level) clause.now pair }
+        requires known { All (λ lit. Exists
+            (length self.now.trail.ranges) self.now.trail.rows lit.term) clause.now }
+        requires within { pair.first ≢ pair.second
+            → (pair.first < length clause.now) × (pair.second < length clause.now) }
+        ensures { IsTrue result → (level : ℕ) → level < present_level self.now
+            → AreLeft (box_at self.now.trail level) clause.now pair }
     {
         if pair.first == pair.second {
             return false;
@@ -129,7 +135,8 @@ impl ClauseTrail {
     // Whether a literal wasn't false at the end of any level below the present one.
     fn was_left(&self, lit: &Lit) -> bool
         requires { Exists (length self.now.trail.ranges) self.now.trail.rows lit.now.term }
-        ensures { IsTrue result → (level : ℕ) → level < present_level self.now → ¬ IsFalseIn (box_at self.now.trail level) lit.now }
+        ensures { IsTrue result → (level : ℕ) → level < present_level self.now
+            → ¬ IsFalseIn (box_at self.now.trail level) lit.now }
     {
         if !self.is_false(lit) {
             return true;

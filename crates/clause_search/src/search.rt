@@ -42,7 +42,13 @@ impl Search {
     pub fn new(alloc: Global, system: &System) -> Result<Search, NoMemory>
         ensures store { IfOk result (λ search_. search_.store ≡ system.now.clauses) }
         ensures trail { IfOk result
-            (λ search_. search_.trail ≡ record { ranges = system.now.ranges; rows = length system.now.rows; lits = []; levels = [] }) }
+            (λ search_. search_.trail ≡ record {
+              ranges = system.now.ranges;
+              rows = length
+                  system.now.rows;
+              lits = [];
+              levels = [];
+            }) }
     {
         let known = ClauseTrail::new(alloc, system)?;
         let places = 2 * (system.vars() as usize + system.rows() as usize);
@@ -57,7 +63,10 @@ impl Search {
     pub fn add_clause(&mut self, lits: &[Lit]) -> Result<u32, NoMemory>
         requires { IsClause (length self.old.trail.ranges) self.old.trail.rows lits.now }
         ensures number { IfOk result (λ number. number ≡ length self.old.store) }
-        ensures ok { OnOk result (self.new ≡ record self.old { store = self.old.store ++ lits.now ∷ [] }) }
+        ensures ok { OnOk result (self.new ≡ record self.old {
+          store = self.old.store ++ lits.now ∷
+              [];
+        }) }
         ensures err { OnErr result (self.new ≡ self.old) }
     {
         self.known.add_clause(lits)
@@ -121,7 +130,8 @@ impl Search {
         requires term { Exists (length self.old.trail.ranges) self.old.trail.rows lit.now.term }
         requires inner { IsInner lit.now.bound }
         requires open { IsOpen (box self.old.trail) lit.now }
-        ensures { IfOk result (λ decided. Decides decided lit.now self.old self.new tally.old tally.new) }
+        ensures { IfOk result (λ decided. Decides decided lit.now self.old self.new tally.old
+            tally.new) }
     {
         self.watches.decide(&mut self.known, lit, tally)
     }
@@ -157,8 +167,10 @@ impl Search {
     pub fn back_to(&mut self, level: u32)
         requires { level ≤ length self.old.trail.levels }
         ensures store { self.new.store ≡ self.old.store }
-        ensures trail { self.new.trail ≡ record self.old.trail
-            { lits = take (level_end self.old.trail level) self.old.trail.lits; levels = take level self.old.trail.levels } }
+        ensures trail { self.new.trail ≡ record self.old.trail {
+          lits = take (level_end self.old.trail level) self.old.trail.lits;
+          levels = take level self.old.trail.levels;
+        } }
     {
         self.watches.back_to(&mut self.known, level);
     }

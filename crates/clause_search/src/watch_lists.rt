@@ -90,7 +90,8 @@ impl WatchLists {
     /// Puts a watcher behind a list. Where memory is wanting the lists stand as before.
     pub fn put(&mut self, list: usize, watcher: Watcher) -> Result<(), NoMemory>
         requires { list < length self.old }
-        ensures ok { OnOk result (self.new ≡ slice_set self.old list (list_at self.old list ++ watcher ∷ [])) }
+        ensures ok { OnOk result (self.new ≡ slice_set self.old list
+            (list_at self.old list ++ watcher ∷ [])) }
         ensures err { OnErr result (self.new ≡ self.old) }
     {
         self.lists[list].push(watcher)?;
@@ -111,7 +112,8 @@ impl WatchLists {
         requires list { list < length self.old }
         requires within { at < length (list_at self.old list) }
         ensures takes { Takes list at self.old self.new }
-        ensures others { (other : ℕ) → other ≢ list → list_at self.new other ≡ list_at self.old other }
+        ensures others { (other : ℕ) → other ≢ list
+            → list_at self.new other ≡ list_at self.old other }
     {
         self.lists[list].swap_remove(at);
     }

@@ -94,7 +94,8 @@ impl Watches {
         requires inner { IsInner lit.now.bound }
         requires open { IsOpen (box known.old.trail) lit.now }
         ensures right { IsRight known.new self.new }
-        ensures decides { IfOk result (λ decided. Decides decided lit.now known.old known.new tally.old tally.new) }
+        ensures decides { IfOk result (λ decided. Decides decided lit.now known.old known.new
+            tally.old tally.new) }
     {
         let end = known.trail().len();
         let Ok(decided) = known.decide(lit, tally) else {
@@ -116,8 +117,10 @@ impl Watches {
         requires level { level ≤ length known.old.trail.levels }
         ensures right { IsRight known.new self.new }
         ensures store { known.new.store ≡ known.old.store }
-        ensures trail { known.new.trail ≡ record known.old.trail
-            { lits = take (level_end known.old.trail level) known.old.trail.lits; levels = take level known.old.trail.levels } }
+        ensures trail { known.new.trail ≡ record known.old.trail {
+          lits = take (level_end known.old.trail level) known.old.trail.lits;
+          levels = take level known.old.trail.levels;
+        } }
     {
         known.back_to(level);
         if (level as usize) < self.base {
@@ -132,7 +135,8 @@ impl Watches {
 
     // Watches no clause any more: each is looked at anew.
     fn forget(&mut self, known: &ClauseTrail)
-        requires { length self.old.lists ≡ 2 * (length known.now.trail.ranges + known.now.trail.rows) }
+        requires { length self.old.lists ≡ 2 *
+            (length known.now.trail.ranges + known.now.trail.rows) }
         ensures { IsRight known.now self.new }
     {
         self.base = known.levels().len();
@@ -190,7 +194,8 @@ impl Watches {
         requires behind { self.old.head < length known.old.trail.lits }
         ensures right { IsRight known.new self.new }
         ensures propagated { IfOk result (λ _. Propagated known.old known.new tally.old tally.new) }
-        ensures count { IfOk result (λ _. length self.new.pairs.items ≡ length self.old.pairs.items) }
+        ensures count { IfOk result (λ _. length self.new.pairs.items ≡ length
+            self.old.pairs.items) }
         ensures works { IfOk result (λ stop. Works stop known.new self.old self.new tally.new) }
     {
         let key = known.trail()[self.head].negation();
@@ -220,8 +225,10 @@ impl Watches {
         requires visiting { IsVisiting known.old self.old key.now list at }
         requires within { at < length (list_at self.old.lists list) }
         ensures right { IsRight known.new self.new }
-        ensures goes { IfOk result (λ _. Goes known.old known.new self.old self.new tally.old tally.new) }
-        ensures visits { IfOk result (λ visit. Visits visit list at key.now known.new self.old self.new tally.new) }
+        ensures goes { IfOk result (λ _. Goes known.old known.new self.old self.new tally.old
+            tally.new) }
+        ensures visits { IfOk result (λ visit. Visits visit list at key.now known.new self.old
+            self.new tally.new) }
     {
         let watcher = self.lists.get(list, at);
         let lit = watcher.literal(key);
@@ -248,10 +255,13 @@ impl Watches {
         requires right { IsRight known.old self.old }
         requires visiting { IsVisiting known.old self.old key.now list at }
         requires within { at < length (list_at self.old.lists list) }
-        requires partner { HoldsAt (λ watcher. IsPartner self.old.pairs.items watcher other) (list_at self.old.lists list) at }
+        requires partner { HoldsAt (λ watcher. IsPartner self.old.pairs.items watcher other)
+            (list_at self.old.lists list) at }
         ensures right { IsRight known.new self.new }
-        ensures goes { IfOk result (λ _. Goes known.old known.new self.old self.new tally.old tally.new) }
-        ensures visits { IfOk result (λ visit. Visits visit list at key.now known.new self.old self.new tally.new) }
+        ensures goes { IfOk result (λ _. Goes known.old known.new self.old self.new tally.old
+            tally.new) }
+        ensures visits { IfOk result (λ visit. Visits visit list at key.now known.new self.old
+            self.new tally.new) }
     {
         let watcher = self.lists.get(list, at);
         let clause = known.clause(watcher.number);
@@ -273,7 +283,8 @@ impl Watches {
 
     // The other watched literal of a watcher's clause, if its own is watched.
     fn partner(&self, watcher: &Watcher) -> Option<usize>
-        ensures { MatchOption result (IsStale self.now.pairs.items watcher.now) (IsPartner self.now.pairs.items watcher.now) }
+        ensures { MatchOption result (IsStale self.now.pairs.items watcher.now)
+            (IsPartner self.now.pairs.items watcher.now) }
     {
         let Some(pair) = self.pairs.get(watcher.number as usize) else {
             return None;
@@ -294,8 +305,10 @@ impl Watches {
         requires target { target < length self.old.lists }
         requires within { at < length (list_at self.old.lists list) }
         requires number { watcher.number < length self.old.pairs.items }
-        ensures moves { IfOk result (λ visit. Moves visit list at target watcher self.old.lists self.new.lists) }
-        ensures pairs { OnOk result (self.new.pairs.items ≡ slice_set self.old.pairs.items watcher.number (record { first = other; second = watcher.at })) }
+        ensures moves { IfOk result (λ visit. Moves visit list at target watcher self.old.lists
+            self.new.lists) }
+        ensures pairs { OnOk result (self.new.pairs.items ≡ slice_set self.old.pairs.items
+            watcher.number (record { first = other; second = watcher.at })) }
         ensures lists { OnErr result (self.new.lists ≡ self.old.lists) }
         ensures same_pairs { OnErr result (self.new.pairs.items ≡ self.old.pairs.items) }
         ensures head { self.new.head ≡ self.old.head }
@@ -325,11 +338,15 @@ fn list_pair(
     number: u32,
     pair: Pair,
 ) -> Result<(), NoMemory>
-    requires known { All (λ lit. Exists (length known.now.trail.ranges) known.now.trail.rows lit.term) clause.now }
-    requires within { pair.first ≢ pair.second → (pair.first < length clause.now) × (pair.second < length clause.now) }
-    requires places { length lists.old ≡ 2 * (length known.now.trail.ranges + known.now.trail.rows) }
+    requires known { All (λ lit. Exists
+        (length known.now.trail.ranges) known.now.trail.rows lit.term) clause.now }
+    requires within { pair.first ≢ pair.second
+        → (pair.first < length clause.now) × (pair.second < length clause.now) }
+    requires places { length lists.old ≡ 2 *
+        (length known.now.trail.ranges + known.now.trail.rows) }
     ensures adds { Adds lists.old lists.new }
-    ensures listed { OnOk result (AreListed (length known.now.trail.ranges) lists.new number clause.now pair) }
+    ensures listed { OnOk result (AreListed
+        (length known.now.trail.ranges) lists.new number clause.now pair) }
 {
     if pair.first == pair.second {
         return Ok(());
@@ -346,11 +363,14 @@ fn list(
     number: u32,
     at: usize,
 ) -> Result<(), NoMemory>
-    requires known { All (λ lit. Exists (length known.now.trail.ranges) known.now.trail.rows lit.term) clause.now }
+    requires known { All (λ lit. Exists
+        (length known.now.trail.ranges) known.now.trail.rows lit.term) clause.now }
     requires within { at < length clause.now }
-    requires places { length lists.old ≡ 2 * (length known.now.trail.ranges + known.now.trail.rows) }
+    requires places { length lists.old ≡ 2 *
+        (length known.now.trail.ranges + known.now.trail.rows) }
     ensures adds { Adds lists.old lists.new }
-    ensures listed { OnOk result (IsListed (length known.now.trail.ranges) lists.new number clause.now at) }
+    ensures listed { OnOk result (IsListed
+        (length known.now.trail.ranges) lists.new number clause.now at) }
 {
     let lit = clause[at];
     let target = known.bounds().place(lit.term, lit.side);

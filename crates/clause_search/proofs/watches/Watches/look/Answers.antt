@@ -91,9 +91,11 @@ returns-then-is_true-clause-visits c =
     let partner : IsPartner it.pairs.items lost c.args.other = subst (λ (x : Watcher). IsPartner it.pairs.items x c.args.other) (sym c.get-watcher.ensures) (c.requires.partner lost) in
     let known : IsKnown state lists it.pairs.items it.head it.base lost.number lost.at c.args.other clause = partner_known state lists it.pairs.items it.head it.base lost c.args.other clause c.requires.right partner among in
     let within = known.within in
-    let done = done_true state (it.head + 1) key lost clause among (true_at (box state.trail) clause c.args.other blank_lit within (c.is_true.ensures.0 c.if-is_true.true)) in
-    (refl, are_done_next state (it.head + 1) key (list_at lists list) at c.requires.visiting.done
-    (hold_at (IsDone state (it.head + 1) key) (list_at lists list) at lost c.requires.within c.get-watcher.ensures done))
+    let done = done_true state (it.head + 1) key lost clause among (true_at (box state.trail) clause c.args.other blank_lit within (c.is_true.ensures.0 c.if-is_true.true)) in (
+      refl,
+      are_done_next state (it.head + 1) key (list_at lists list) at c.requires.visiting.done
+          (hold_at (IsDone state (it.head + 1) key) (list_at lists list) at lost c.requires.within c.get-watcher.ensures done),
+    )
 
 pub settle-requires : goal.settle-requires
 settle-requires c =
@@ -157,9 +159,11 @@ returns-in_default-2-clause-visits c =
     let settled : IsSettledAt new lost.number = subst (λ stop. Settles stop lost.number new c.settle.new.tally) c.in_default-2.is c.in_ok-spread.ensures.settles in
     let all : AreFalseBut (box state.trail) clause c.args.other (length clause) = subst (λ (t : Trail). AreFalseBut (box t) clause c.args.other (length clause)) c.bounds.ensures.trail c.in_default.ensures in
     let done = settled_done state new c.args.tally.now c.settle.new.tally (it.head + 1) key lost clause c.args.other p among all settled in
-    let before = are_done_propagated state new c.args.tally.now c.settle.new.tally (it.head + 1) key (list_at lists list) at (omega (arith, c.requires.visiting.behind)) p c.requires.visiting.done in
-    (refl, are_done_next new (it.head + 1) key (list_at lists list) at before
-    (hold_at (IsDone new (it.head + 1) key) (list_at lists list) at lost c.requires.within c.get-watcher.ensures done))
+    let before = are_done_propagated state new c.args.tally.now c.settle.new.tally (it.head + 1) key (list_at lists list) at (omega (arith, c.requires.visiting.behind)) p c.requires.visiting.done in (
+      refl,
+      are_done_next new (it.head + 1) key (list_at lists list) at before
+          (hold_at (IsDone new (it.head + 1) key) (list_at lists list) at lost c.requires.within c.get-watcher.ensures done),
+    )
 
 pub returns-in_default-clause-right : goal.returns-in_default-clause-right
 returns-in_default-clause-right c =
@@ -227,7 +231,7 @@ returns-clause-right c =
     } in
     let target : c.place-target.result ≡ place_of (length state.trail.ranges) (lit_of clause free).term (lit_of clause free).side = subst (λ (t : Trail). c.place-target.result ≡ place_of (length t.ranges) (lit_of clause free).term (lit_of clause free).side) c.bounds-2.ensures.trail c.place-target.ensures.place in
     let moves = c.in_ok-visit.ensures.moves in
-    let right = moved_right state it c.move_to.new.self c.in_ok-visit.field-0 list at c.place-target.result lost c.of-moved.result c.args.other free clause c.requires.right c.requires.within c.get-watcher.ensures partner among is_free c.of-moved.ensures target moves c.in_ok-visit.ensures.pairs c.in_ok-visit.ensures.head c.in_ok-visit.ensures.base in
+    let right = moved_right state it c.move_to.new.self c.in_ok-visit.visit list at c.place-target.result lost c.of-moved.result c.args.other free clause c.requires.right c.requires.within c.get-watcher.ensures partner among is_free c.of-moved.ensures target moves c.in_ok-visit.ensures.pairs c.in_ok-visit.ensures.head c.in_ok-visit.ensures.base in
     right
 
 pub returns-clause-goes : goal.returns-clause-goes
@@ -249,7 +253,7 @@ returns-clause-goes c =
     } in
     let target : c.place-target.result ≡ place_of (length state.trail.ranges) (lit_of clause free).term (lit_of clause free).side = subst (λ (t : Trail). c.place-target.result ≡ place_of (length t.ranges) (lit_of clause free).term (lit_of clause free).side) c.bounds-2.ensures.trail c.place-target.ensures.place in
     let moves = c.in_ok-visit.ensures.moves in
-    let right = moved_right state it c.move_to.new.self c.in_ok-visit.field-0 list at c.place-target.result lost c.of-moved.result c.args.other free clause c.requires.right c.requires.within c.get-watcher.ensures partner among is_free c.of-moved.ensures target moves c.in_ok-visit.ensures.pairs c.in_ok-visit.ensures.head c.in_ok-visit.ensures.base in
+    let right = moved_right state it c.move_to.new.self c.in_ok-visit.visit list at c.place-target.result lost c.of-moved.result c.args.other free clause c.requires.right c.requires.within c.get-watcher.ensures partner among is_free c.of-moved.ensures target moves c.in_ok-visit.ensures.pairs c.in_ok-visit.ensures.head c.in_ok-visit.ensures.base in
     record {
       propagated = propagated_none state c.args.tally.now;
       right = right;
@@ -276,7 +280,7 @@ returns-clause-visits c =
     } in
     let target : c.place-target.result ≡ place_of (length state.trail.ranges) (lit_of clause free).term (lit_of clause free).side = subst (λ (t : Trail). c.place-target.result ≡ place_of (length t.ranges) (lit_of clause free).term (lit_of clause free).side) c.bounds-2.ensures.trail c.place-target.ensures.place in
     let moves = c.in_ok-visit.ensures.moves in
-    let right = moved_right state it c.move_to.new.self c.in_ok-visit.field-0 list at c.place-target.result lost c.of-moved.result c.args.other free clause c.requires.right c.requires.within c.get-watcher.ensures partner among is_free c.of-moved.ensures target moves c.in_ok-visit.ensures.pairs c.in_ok-visit.ensures.head c.in_ok-visit.ensures.base in
+    let right = moved_right state it c.move_to.new.self c.in_ok-visit.visit list at c.place-target.result lost c.of-moved.result c.args.other free clause c.requires.right c.requires.within c.get-watcher.ensures partner among is_free c.of-moved.ensures target moves c.in_ok-visit.ensures.pairs c.in_ok-visit.ensures.head c.in_ok-visit.ensures.base in
     let visiting = c.requires.visiting in
-    moved_visits c.in_ok-visit.field-0 state it c.move_to.new.self list at c.place-target.result key c.of-moved.result c.args.tally.now moves c.in_ok-visit.ensures.head visiting.done
+    moved_visits c.in_ok-visit.visit state it c.move_to.new.self list at c.place-target.result key c.of-moved.result c.args.tally.now moves c.in_ok-visit.ensures.head visiting.done
     (free_done state (it.head + 1) key list c.place-target.result lost.number free clause c.of-moved.result c.clause-clause.ensures.clause visiting.term visiting.list_is target c.of-moved.ensures is_free.left)

@@ -37,9 +37,11 @@ returns-then-not-is_false-clause-visits c =
     let at = c.args.at in
     let key = c.args.key.now in
     let left : IsFalseIn (box state.trail) (watched_lit key lost.bound) → ⊥ =
-    λ f. false≢true (sym c.if-not-is_false.true ∙ c.is_false.ensures.1 (subst (IsFalseIn (box state.trail)) (sym c.literal-lit.ensures) f)) in
-    (refl, are_done_next state (it.head + 1) key (list_at lists list) at c.requires.visiting.done
-    (hold_at (IsDone state (it.head + 1) key) (list_at lists list) at lost c.requires.within c.get-watcher.ensures (done_left state (it.head + 1) key lost left)))
+    λ f. false≢true (sym c.if-not-is_false.true ∙ c.is_false.ensures.1 (subst (IsFalseIn (box state.trail)) (sym c.literal-lit.ensures) f)) in (
+      refl,
+      are_done_next state (it.head + 1) key (list_at lists list) at c.requires.visiting.done
+          (hold_at (IsDone state (it.head + 1) key) (list_at lists list) at lost c.requires.within c.get-watcher.ensures (done_left state (it.head + 1) key lost left)),
+    )
 
 pub returns-in_default-clause-right : goal.returns-in_default-clause-right
 returns-in_default-clause-right c =
