@@ -14,12 +14,8 @@ pub trait Clauses {
 
     ghost known: { Self → Numbered };
 
-    /// They are kept as a look-up asks.
-    ghost ordered: { Self → Type 0 };
-
     /// The literals of the clause with that number, `None` exactly where there is none.
     fn clause(&self, number: u32) -> Option<&[Lit]>
-        requires { ordered self.now }
         ensures { MatchOption result (known self.now number ≡ None)
             (λ clause. known self.now number ≡ Some clause.now) };
 }
@@ -66,7 +62,6 @@ pub fn propagates<C: Clauses>(
     clauses: &C,
     hints: &[u32],
 ) -> Result<bool, NoMemory>
-    requires ordered { C.ordered clauses.now }
     requires slots { (number : ℕ) (clause : List Literal) →
         C.known clauses.now number ≡ Some clause → All (λ lit. HasSlot bounds.old lit.term) clause }
     ensures exact { IfOk result (λ yes. (box : List Literal) → Stands bounds.old box →

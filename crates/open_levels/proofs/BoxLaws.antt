@@ -12,10 +12,9 @@ use Rattle.box_check.specs.declared.bounds.Bounds.{Bounds}
 use Rattle.box_check.specs.Bounds.{IsOver, SaysEverywhere, AreUpTo, Stands, StandsEverywhere, StaysHere, Extends, IsSame, opened}
 use Rattle.box_check.proofs.BoundsLaws.{Extends_more, same_extends, AreUpTo-later, AreUpTo-opened, Stands-opened}
 use Rattle.box_check.proofs.HintsLaws.{Stands-later, StandsEverywhere-later, StandsEverywhere-stays}
-use Rattle.open_levels.specs.declared.level.EndedStep.{EndedStep}
-use Rattle.open_levels.specs.declared.level.OpenLevel.{OpenLevel}
 use Rattle.open_levels.specs.Adds.{AreFor, Adds, AddsEverywhere, Begins}
-use Rattle.open_levels.specs.Kept.{finished_of, level_of, levels_of, shared_box, HasBox, AreAround}
+use Rattle.open_levels.specs.Stack.{OpenLevel, level_of, levels_of}
+use Rattle.open_levels.specs.Kept.{shared_box, HasBox, AreAround}
 use Rattle.open_levels.proofs.AddsLaws.{SaySame, Stands-same, StandsEverywhere-same, over_later}
 use Rattle.open_levels.proofs.LevelLaws.{newest_of, cuts_in, cut_here, cut_later, units_of, units-append, units_of-append, newest_push, box_split, box_with_step}
 
@@ -77,13 +76,13 @@ begins cost goal old mid new is up_to adds stays =
       everywhere = λ box stands. StandsEverywhere-stays (opened old) new box stay put.extends stands;
     }
 
-module _ (system : System) (last : OpenLevel) (enclosing : List OpenLevel) (none : last.ended.items ≡ []) where
+module _ (system : System) (last : OpenLevel) (enclosing : List OpenLevel) (none : last.ended ≡ []) where
   begun_is : (cost : Term) → box_of system cost (levels_of last enclosing)
       ≡ range_bounds system.ranges ++ (goal_bounds cost last.goal ++ (unit_bounds system.clauses ++ units_of (flat_map cuts_of (map level_of enclosing))))
   begun_is cost =
       let outer = units_of (flat_map cuts_of (map level_of enclosing)) in
       box_split system cost last enclosing
-      ∙ ap (λ (steps : List EndedStep). (range_bounds system.ranges ++ goal_bounds cost last.goal) ++ (unit_bounds system.clauses ++ (units_of (newest_of steps) ++ outer))) none
+      ∙ ap (λ (steps : List Finished). (range_bounds system.ranges ++ goal_bounds cost last.goal) ++ (unit_bounds system.clauses ++ (units_of (newest_of steps) ++ outer))) none
       ∙ append_assoc (range_bounds system.ranges) (goal_bounds cost last.goal) (unit_bounds system.clauses ++ outer)
 
   begun_box : (cost : Term) → SaySame (goal_bounds cost last.goal ++ shared_box system enclosing) (box_of system cost (levels_of last enclosing))
@@ -98,7 +97,7 @@ module _ (system : System) (last : OpenLevel) (enclosing : List OpenLevel) (none
 
   shared_begun : shared_box system (last ∷ enclosing) ≡ shared_box system enclosing
   shared_begun =
-      ap (λ (steps : List EndedStep). range_bounds system.ranges
+      ap (λ (steps : List Finished). range_bounds system.ranges
       ++ unit_bounds (system.clauses ++ map (λ f. f.clause) (cuts_in (newest_of steps) ++ flat_map cuts_of (map level_of enclosing)))) none
 
   pub has_box_begun : (cost : Term) (goal : Goal) (old new : Bounds) → AreFor system old → StandsEverywhere old (shared_box system enclosing) → Begins cost goal old new
@@ -114,14 +113,14 @@ module _ (system : System) (last : OpenLevel) (enclosing : List OpenLevel) (none
   }
 
 -- a step that ends on the last level
-module _ (system : System) (last after : OpenLevel) (enclosing : List OpenLevel) (step : EndedStep) (ended_is : after.ended.items ≡ last.ended.items ++ step ∷ []) where
-  cuts_after : cuts_of (level_of after) ≡ cuts_in (finished_of step ∷ (level_of last).finished)
-  cuts_after = ap (λ (steps : List EndedStep). cuts_in (newest_of steps)) ended_is ∙ ap cuts_in (newest_push last.ended.items step)
+module _ (system : System) (last after : OpenLevel) (enclosing : List OpenLevel) (step : Finished) (ended_is : after.ended ≡ last.ended ++ step ∷ []) where
+  cuts_after : cuts_of (level_of after) ≡ cuts_in (step ∷ (level_of last).finished)
+  cuts_after = ap (λ (steps : List Finished). cuts_in (newest_of steps)) ended_is ∙ ap cuts_in (newest_push last.ended step)
 
   shared_with_other : step.is_cut ≡ false → shared_box system (after ∷ enclosing) ≡ shared_box system (last ∷ enclosing)
   shared_with_other other =
       ap (λ (fs : List Finished). range_bounds system.ranges ++ unit_bounds (system.clauses ++ map (λ f. f.clause) (fs ++ flat_map cuts_of (map level_of enclosing))))
-      (cuts_after ∙ cut_later (finished_of step) (level_of last).finished other)
+      (cuts_after ∙ cut_later step (level_of last).finished other)
 
   shared_after : step.is_cut ≡ true → shared_box system (after ∷ enclosing)
       ≡ range_bounds system.ranges ++ (unit_bounds system.clauses
@@ -130,9 +129,9 @@ module _ (system : System) (last after : OpenLevel) (enclosing : List OpenLevel)
       let outer = flat_map cuts_of (map level_of enclosing) in
       shared_split system (after ∷ enclosing)
       ∙ ap (λ (fs : List Finished). range_bounds system.ranges ++ (unit_bounds system.clauses ++ units_of (fs ++ outer)))
-      (cuts_after ∙ cut_here (finished_of step) (level_of last).finished cut)
+      (cuts_after ∙ cut_here step (level_of last).finished cut)
       ∙ ap (λ (lits : List Lit). range_bounds system.ranges ++ (unit_bounds system.clauses ++ lits))
-      (units_of-append (finished_of step ∷ []) (cuts_of (level_of last) ++ outer))
+      (units_of-append (step ∷ []) (cuts_of (level_of last) ++ outer))
 
   shared_with_cut : step.is_cut ≡ true → SaySame (unit_bounds (step.clause ∷ []) ++ shared_box system (last ∷ enclosing)) (shared_box system (after ∷ enclosing))
   shared_with_cut cut =

@@ -15,20 +15,16 @@ use Rattle.mix_system.specs.Bounds.{IsIn, range_bounds, range_bounds_from, only_
 use Rattle.mix_system.proofs.BoundLaws.{IsIn-append_left, IsIn-append_right, IsIn-append_cases}
 use Rattle.proof_term.specs.declared.proof.Goal.{Goal}
 use Rattle.proof_term.specs.Levels.{Finished, Levels, cuts_of, available, clause_of, known, goal_bounds, box_of}
-use Rattle.open_levels.specs.declared.level.EndedStep.{EndedStep}
-use Rattle.open_levels.specs.declared.level.OpenLevel.{OpenLevel}
 use Rattle.open_levels.specs.Adds.{both_bounds}
-use Rattle.open_levels.specs.Kept.{finished_of, level_of, levels_of}
+use Rattle.open_levels.specs.Stack.{OpenLevel, level_of, levels_of}
 use Rattle.open_levels.proofs.AddsLaws.{SaySame}
 
 -- the steps up to a place, the newest first
-abbrev pub newest_of : List EndedStep → List Finished
-newest_of steps = reverse (map finished_of steps)
+abbrev pub newest_of : List Finished → List Finished
+newest_of steps = reverse steps
 
-pub newest_more : (steps : List EndedStep) (i : ℕ) (d : EndedStep) → i < length steps → newest_of (take (i + 1) steps) ≡ finished_of (get_or steps i d) ∷ newest_of (take i steps)
-newest_more steps i d within =
-    ap newest_of (take_more steps i d within) ∙ ap (λ (fs : List Finished). reverse fs) (map-append finished_of (take i steps) (get_or steps i d ∷ []))
-    ∙ reverse-append (map finished_of (take i steps)) (finished_of (get_or steps i d) ∷ [])
+pub newest_more : (steps : List Finished) (i : ℕ) (d : Finished) → i < length steps → newest_of (take (i + 1) steps) ≡ get_or steps i d ∷ newest_of (take i steps)
+newest_more steps i d within = ap newest_of (take_more steps i d within) ∙ reverse-append (take i steps) (get_or steps i d ∷ [])
 
 abbrev pub cuts_in : List Finished → List Finished
 cuts_in fs = filter (λ f. f.is_cut) fs
@@ -85,10 +81,6 @@ left_clause clauses i clause is =
     let front = front_is clauses i clause (slice_get_within clauses i clause is) (sym (get_or_from_slice_get clauses i clause clause is)) in
     ap unit_bounds front ∙ units-append (clause ∷ []) (drop (i + 1) clauses)
 
-pub left_level_cuts : (levels : List OpenLevel) (i : ℕ) (level : OpenLevel) → i < length levels → level ≡ get_or levels i level
-    → flat_map cuts_of (map level_of (drop i levels)) ≡ cuts_of (level_of level) ++ flat_map cuts_of (map level_of (drop (i + 1) levels))
-left_level_cuts levels i level within is = ap (λ (xs : List OpenLevel). flat_map cuts_of (map level_of xs)) (front_is levels i level within is)
-
 pub none_single : (clause : List Lit) → (length clause ≡ 1 → ⊥) → unit_bounds (clause ∷ []) ≡ []
 none_single [] not_one = refl
 none_single (lit ∷ []) not_one = absurd (not_one refl)
@@ -103,15 +95,14 @@ module _ (system : System) (cost : Term) (last : OpenLevel) (enclosing : List Op
       (units-append system.clauses (map (λ f. f.clause) (available (levels_of last enclosing)))
       ∙ ap (λ (lits : List Lit). unit_bounds system.clauses ++ lits) (units_of-append (level_of last).finished (flat_map cuts_of (map level_of enclosing))))
 
-pub newest_push : (steps : List EndedStep) (step : EndedStep) → newest_of (steps ++ step ∷ []) ≡ finished_of step ∷ newest_of steps
-newest_push steps step =
-    ap (λ (fs : List Finished). reverse fs) (map-append finished_of steps (step ∷ [])) ∙ reverse-append (map finished_of steps) (finished_of step ∷ [])
+pub newest_push : (steps : List Finished) (step : Finished) → newest_of (steps ++ step ∷ []) ≡ step ∷ newest_of steps
+newest_push steps step = reverse-append steps (step ∷ [])
 
 -- the box of a level on which one more step has ended
-module _ (system : System) (cost : Term) (last after : OpenLevel) (enclosing : List OpenLevel) (step : EndedStep)
-    (goal_is : after.goal ≡ last.goal) (ended_is : after.ended.items ≡ last.ended.items ++ step ∷ []) where
-  pub finished_after : (level_of after).finished ≡ finished_of step ∷ (level_of last).finished
-  finished_after = ap newest_of ended_is ∙ newest_push last.ended.items step
+module _ (system : System) (cost : Term) (last after : OpenLevel) (enclosing : List OpenLevel) (step : Finished)
+    (goal_is : after.goal ≡ last.goal) (ended_is : after.ended ≡ last.ended ++ step ∷ []) where
+  pub finished_after : (level_of after).finished ≡ step ∷ (level_of last).finished
+  finished_after = ap newest_of ended_is ∙ newest_push last.ended step
 
   box_after : box_of system cost (levels_of after enclosing)
       ≡ (range_bounds system.ranges ++ goal_bounds cost last.goal)
@@ -121,7 +112,7 @@ module _ (system : System) (cost : Term) (last after : OpenLevel) (enclosing : L
       ∙ ap (λ (g : Goal). (range_bounds system.ranges ++ goal_bounds cost g) ++ (unit_bounds system.clauses ++ (units_of (level_of after).finished ++ units_of (flat_map cuts_of (map level_of enclosing))))) goal_is
       ∙ ap (λ (fs : List Finished). (range_bounds system.ranges ++ goal_bounds cost last.goal) ++ (unit_bounds system.clauses ++ (units_of fs ++ units_of (flat_map cuts_of (map level_of enclosing))))) finished_after
       ∙ ap (λ (lits : List Lit). (range_bounds system.ranges ++ goal_bounds cost last.goal) ++ (unit_bounds system.clauses ++ (lits ++ units_of (flat_map cuts_of (map level_of enclosing)))))
-      (units_of-append (finished_of step ∷ []) (level_of last).finished)
+      (units_of-append (step ∷ []) (level_of last).finished)
 
   pub box_with_step : SaySame (unit_bounds (step.clause ∷ []) ++ box_of system cost (levels_of last enclosing)) (box_of system cost (levels_of after enclosing))
   box_with_step lit =

@@ -1,3 +1,5 @@
+mod EndedLaws
+mod StackLaws
 pub mod AddsLaws
 pub mod BoxLaws
 mod KeptLaws

@@ -1,19 +1,16 @@
 -- The clause of a number among steps whose numbers rise.
 use Rattle.std.proofs.Common.{◌≡◌, ◌≢◌, ◌+◌, ◌<◌, ◌≤◌, ℕ, suc, zero, List, [], ◌∷◌, length, take, get_or, true, false, Option, Some, None, refl, sym, ◌∙◌, ap, subst, inl, inr, ⊎_elim, arith, All}
 use Rattle.std.specs.Prelude.{◌==◌}
+use Rattle.std.specs.List.{AllPairs}
 use Rattle.std.proofs.lemmas.Bool.{cases_Bool, cases_lt}
 use Rattle.std.proofs.lemmas.Bool.Decides.{nat_tests}
 use Rattle.std.proofs.lemmas.List.{get_or_default, take_all}
 use Rattle.mix_system.specs.declared.literal.Lit.{Lit}
 use Rattle.proof_term.specs.Levels.{Finished, clause_of}
-use Rattle.open_levels.specs.declared.level.EndedStep.{EndedStep}
-use Rattle.open_levels.specs.Kept.{finished_of, AreRising, IsAt}
+use Rattle.open_levels.specs.Flat.{Rises, IsAt}
 use Rattle.open_levels.proofs.LevelLaws.{newest_of, newest_more, cuts_in, clause_here, clause_later, cut_here, cut_later}
 
-abbrev pub blank : EndedStep
-blank = record { number = 0; clause = []; is_cut = false }
-
-newest_next : (steps : List EndedStep) (n : ℕ) (d : EndedStep) → n < length steps → newest_of (take (suc n) steps) ≡ finished_of (get_or steps n d) ∷ newest_of (take n steps)
+newest_next : (steps : List Finished) (n : ℕ) (d : Finished) → n < length steps → newest_of (take (suc n) steps) ≡ get_or steps n d ∷ newest_of (take n steps)
 newest_next steps n d within =
     let next : suc n ≡ n + 1 = omega arith in
     ap (λ k. newest_of (take k steps)) next ∙ newest_more steps n d within
@@ -25,16 +22,16 @@ cut_passed number f fs other = elim (cases_Bool f.is_cut) [
   | inr not ↦ ap (clause_of number) (cut_later f fs not)
 ]
 
-module _ (steps : List EndedStep) (number : ℕ) where
+module _ (steps : List Finished) (number : ℕ) where
   -- up to a place no step has the number
   abbrev OthersTo : ℕ → Type 0
-  OthersTo n = (k : ℕ) (d : EndedStep) → k < n → k < length steps → (get_or steps k d).number ≢ number
+  OthersTo n = (k : ℕ) (d : Finished) → k < n → k < length steps → (get_or steps k d).number ≢ number
 
-  none_to : (n : ℕ) (d : EndedStep) → n ≤ length steps → OthersTo n → (clause_of number (newest_of (take n steps)) ≡ None) × (clause_of number (cuts_in (newest_of (take n steps))) ≡ None)
+  none_to : (n : ℕ) (d : Finished) → n ≤ length steps → OthersTo n → (clause_of number (newest_of (take n steps)) ≡ None) × (clause_of number (cuts_in (newest_of (take n steps))) ≡ None)
   none_to zero d within others = (refl, refl)
   none_to (suc n) d within others =
       let rest = none_to n d (omega (arith, within)) (λ k e before has. others k e (omega (arith, before)) has) in
-      let f = finished_of (get_or steps n d) in
+      let f = get_or steps n d in
       let apart : (get_or steps n d).number ≢ number = others n d (omega arith) (omega (arith, within)) in
       let test : (f.number == number) ≡ false = grind (arith, nat_tests) in
       let more = newest_next steps n d (omega (arith, within)) in (
@@ -42,11 +39,11 @@ module _ (steps : List EndedStep) (number : ℕ) where
         ap (λ (fs : List Finished). clause_of number (cuts_in fs)) more ∙ cut_passed number f (newest_of (take n steps)) test ∙ rest.1,
       )
 
-  module _ (rising : AreRising steps) (at : ℕ) (d : EndedStep) (has : at < length steps) (is : (get_or steps at d).number ≡ number) where
+  module _ (rising : AllPairs Rises steps) (at : ℕ) (d : Finished) (has : at < length steps) (is : (get_or steps at d).number ≡ number) where
     others_before : OthersTo at
     others_before k e before within =
         let less : (get_or steps k e).number < (get_or steps at e).number = rising k at e before has in
-        let here : (get_or steps at e).number ≡ number = subst (λ (x : EndedStep). x.number ≡ number) (get_or_default steps at d e has) is in
+        let here : (get_or steps at e).number ≡ number = subst (λ (x : Finished). x.number ≡ number) (get_or_default steps at d e has) is in
         λ same. absurd (omega (arith, less, here, same))
 
     others_behind : (n : ℕ) → at < n → n < length steps → (get_or steps n d).number ≢ number
@@ -57,7 +54,7 @@ module _ (steps : List EndedStep) (number : ℕ) where
     found_to : (n : ℕ) → at < n → n ≤ length steps → clause_of number (newest_of (take n steps)) ≡ Some (get_or steps at d).clause
     found_to zero before within = absurd (omega (arith, before))
     found_to (suc n) before within =
-        let f = finished_of (get_or steps n d) in
+        let f = get_or steps n d in
         let more = ap (clause_of number) (newest_next steps n d (omega (arith, within))) in
         ⊎_elim
         (λ (lt : at < n).
@@ -74,7 +71,7 @@ module _ (steps : List EndedStep) (number : ℕ) where
     cut_found_to : (n : ℕ) → at < n → n ≤ length steps → (get_or steps at d).is_cut ≡ true → clause_of number (cuts_in (newest_of (take n steps))) ≡ Some (get_or steps at d).clause
     cut_found_to zero before within cut = absurd (omega (arith, before))
     cut_found_to (suc n) before within cut =
-        let f = finished_of (get_or steps n d) in
+        let f = get_or steps n d in
         let more = ap (λ (fs : List Finished). clause_of number (cuts_in fs)) (newest_next steps n d (omega (arith, within))) in
         ⊎_elim
         (λ (lt : at < n).
@@ -93,7 +90,7 @@ module _ (steps : List EndedStep) (number : ℕ) where
     no_cut_to : (n : ℕ) → at < n → n ≤ length steps → (get_or steps at d).is_cut ≡ false → clause_of number (cuts_in (newest_of (take n steps))) ≡ None
     no_cut_to zero before within other = absurd (omega (arith, before))
     no_cut_to (suc n) before within other =
-        let f = finished_of (get_or steps n d) in
+        let f = get_or steps n d in
         let more = ap (λ (fs : List Finished). clause_of number (cuts_in fs)) (newest_next steps n d (omega (arith, within))) in
         ⊎_elim
         (λ (lt : at < n).
@@ -108,47 +105,27 @@ module _ (steps : List EndedStep) (number : ℕ) where
 
 -- the same of all steps
 
-whole : (steps : List EndedStep) → take (length steps) steps ≡ steps
+whole : (steps : List Finished) → take (length steps) steps ≡ steps
 whole steps = take_all (length steps) steps (omega arith)
 
-pub none_has : (steps : List EndedStep) (number : ℕ) (d : EndedStep) → All (λ step. step.number ≢ number) steps
+pub none_has : (steps : List Finished) (number : ℕ) (d : Finished) → All (λ step. step.number ≢ number) steps
     → (clause_of number (newest_of steps) ≡ None) × (clause_of number (cuts_in (newest_of steps)) ≡ None)
 none_has steps number d all =
-    subst (λ (xs : List EndedStep). (clause_of number (newest_of xs) ≡ None) × (clause_of number (cuts_in (newest_of xs)) ≡ None)) (whole steps)
+    subst (λ (xs : List Finished). (clause_of number (newest_of xs) ≡ None) × (clause_of number (cuts_in (newest_of xs)) ≡ None)) (whole steps)
     (none_to steps number (length steps) d (omega arith) (λ k e before within. all k e within))
 
-module _ (steps : List EndedStep) (number : ℕ) (rising : AreRising steps) (at : ℕ) (d : EndedStep) (found : IsAt steps number at) where
+module _ (steps : List Finished) (number : ℕ) (rising : AllPairs Rises steps) (at : ℕ) (d : Finished) (found : IsAt steps number at) where
   pub clause_found : clause_of number (newest_of steps) ≡ Some (get_or steps at d).clause
   clause_found =
-      subst (λ (xs : List EndedStep). clause_of number (newest_of xs) ≡ Some (get_or steps at d).clause) (whole steps)
+      subst (λ (xs : List Finished). clause_of number (newest_of xs) ≡ Some (get_or steps at d).clause) (whole steps)
       (found_to steps number rising at d found.0 (found.1 d) (length steps) found.0 (omega arith))
 
   pub cut_found : (get_or steps at d).is_cut ≡ true → clause_of number (cuts_in (newest_of steps)) ≡ Some (get_or steps at d).clause
   cut_found cut =
-      subst (λ (xs : List EndedStep). clause_of number (cuts_in (newest_of xs)) ≡ Some (get_or steps at d).clause) (whole steps)
+      subst (λ (xs : List Finished). clause_of number (cuts_in (newest_of xs)) ≡ Some (get_or steps at d).clause) (whole steps)
       (cut_found_to steps number rising at d found.0 (found.1 d) (length steps) found.0 (omega arith) cut)
 
   pub no_cut_found : (get_or steps at d).is_cut ≡ false → clause_of number (cuts_in (newest_of steps)) ≡ None
   no_cut_found other =
-      subst (λ (xs : List EndedStep). clause_of number (cuts_in (newest_of xs)) ≡ None) (whole steps)
+      subst (λ (xs : List Finished). clause_of number (cuts_in (newest_of xs)) ≡ None) (whole steps)
       (no_cut_to steps number rising at d found.0 (found.1 d) (length steps) found.0 (omega arith) other)
-
--- halving
-
-module _ (steps : List EndedStep) (rising : AreRising steps) (middle : ℕ) (e : EndedStep) (number : ℕ) where
-  pub below_middle : middle < length steps → (get_or steps middle e).number < number → (k : ℕ) (d : EndedStep) → k < middle + 1 → (get_or steps k d).number < number
-  below_middle within less k d before =
-      let here : (get_or steps middle d).number < number = subst (λ (x : EndedStep). x.number < number) (get_or_default steps middle e d within) less in
-      ⊎_elim (λ (lt : k < middle). let was : (get_or steps k d).number < (get_or steps middle d).number = rising k middle d lt within in omega arith)
-      (λ (le : middle ≤ k). let same : k ≡ middle = omega arith in rw same here) (cases_lt k middle)
-
-  pub above_middle : number < (get_or steps middle e).number → (k : ℕ) (d : EndedStep) → middle ≤ k → k < length steps → number < (get_or steps k d).number
-  above_middle more k d from within =
-      let here : number < (get_or steps middle d).number = subst (λ (x : EndedStep). number < x.number) (get_or_default steps middle e d (omega arith)) more in
-      ⊎_elim (λ (lt : middle < k). let was : (get_or steps middle d).number < (get_or steps k d).number = rising middle k d lt within in omega arith)
-      (λ (le : k ≤ middle). let same : k ≡ middle = omega arith in rw same here) (cases_lt middle k)
-
-pub none_left : (steps : List EndedStep) (low high number : ℕ) → high ≤ low → ((k : ℕ) (d : EndedStep) → k < low → (get_or steps k d).number < number)
-    → ((k : ℕ) (d : EndedStep) → high ≤ k → k < length steps → number < (get_or steps k d).number) → All (λ step. step.number ≢ number) steps
-none_left steps low high number met below above = λ k d within same.
-    ⊎_elim (λ (lt : k < low). let was = below k d lt in absurd (omega (arith, was, same))) (λ (le : low ≤ k). let was = above k d (omega arith) within in absurd (omega (arith, was, same))) (cases_lt k low)

@@ -18,8 +18,8 @@ use Rattle.proof_term.proofs.ListLaws.{All-flat_map}
 use Rattle.box_check.specs.declared.bounds.Bounds.{Bounds}
 use Rattle.box_check.specs.Bounds.{IsOver, HasSlot, IsSame}
 use Rattle.leaf_check.specs.Steps.{IsFirstExcess}
-use Rattle.open_levels.specs.declared.level.OpenLevel.{OpenLevel}
-use Rattle.open_levels.specs.Kept.{finished_of, level_of, levels_of, IsLevel}
+use Rattle.open_levels.specs.Stack.{OpenLevel, level_of, levels_of}
+use Rattle.open_levels.specs.Kept.{IsLevel}
 use Rattle.open_levels.specs.Shown.{shown_by, IsShown, Keeps}
 use Rattle.open_levels.proofs.AddsLaws.{has_slot}
 
@@ -56,7 +56,7 @@ IsNamed system f = All (NamesTerm system) f.clause
 
 level_named : (system : System) (level : OpenLevel) → IsLevel system level → All (IsNamed system) (level_of level).finished
 level_named system level kept =
-    All_reverse (IsNamed system) (map finished_of level.ended.items) (All-map (IsNamed system) finished_of level.ended.items kept.named)
+    All_reverse (IsNamed system) level.ended kept.named
 
 cuts_named : (system : System) (level : OpenLevel) → IsLevel system level → All (IsNamed system) (cuts_of (level_of level))
 cuts_named system level kept = All-filter (λ f. f.is_cut) (IsNamed system) (level_of level).finished (level_named system level kept)

@@ -8,11 +8,12 @@ ghost use Rattle.proof_term.specs.Steps.{NamesTerm, StaysWithin, negation_step};
 ghost use Rattle.box_check.specs.Bounds.{IsOver, Stands};
 ghost use Rattle.leaf_check.specs.Steps.{IsFirstExcess};
 ghost use Rattle.open_levels.specs.Adds.{Adds};
-ghost use Rattle.open_levels.specs.Kept.{levels_of, IsLevel};
+ghost use Rattle.open_levels.specs.Kept.{IsLevel};
+ghost use Rattle.open_levels.specs.Stack.{levels_of};
 ghost use Rattle.open_levels.specs.Shown.{IsShown, Keeps, shown_by};
 
+use crate::Available;
 use crate::filling::put_one;
-use crate::{Available, OpenLevel};
 use box_check::{Bounds, propagates};
 use mix_system::{Lit, Side, System};
 use wx_base::NoMemory;
@@ -87,12 +88,13 @@ pub fn follow_hints(
     requires formed { IsWellFormed available.now.system.now }
     requires over { IsOver (length available.now.system.now.ranges)
         (length available.now.system.now.rows) bounds.old }
-    requires last { IsLevel available.now.system.now available.now.last.now }
-    requires enclosing { All (IsLevel available.now.system.now) available.now.enclosing.now }
+    requires last { IsLevel available.now.system.now available.now.stack.now.last }
+    requires enclosing { All (IsLevel available.now.system.now)
+        available.now.stack.now.enclosing }
     requires named { All (NamesTerm available.now.system.now) clause.now }
     ensures exact { IfOk result (λ shown. (box : List Literal) → Stands bounds.old box →
         IsShown clause.now hints.now box (known available.now.system.now
-        (levels_of available.now.last.now available.now.enclosing.now)) shown) }
+        (levels_of available.now.stack.now.last available.now.stack.now.enclosing)) shown) }
     ensures keeps { IfOk result (λ shown. Keeps shown bounds.old bounds.new) }
 {
     let mark = bounds.mark();

@@ -3,14 +3,16 @@
 #![tactic(auto)]
 
 mod available;
+mod ended;
 mod filling;
 mod lemma;
-mod level;
 mod levels;
 mod names;
+mod stack;
 
 pub use available::Available;
+pub use ended::{EndedSteps, StepMark};
 pub use lemma::{Shown, assume, follow_hints};
-pub use level::{EndedStep, OpenLevel};
 pub use levels::OpenLevels;
 pub use names::{has_term, names_terms};
+pub use stack::{LevelMark, LevelStack};

@@ -12,13 +12,13 @@ use Rattle.proof_term.specs.Steps.{NamesTerm}
 use Rattle.proof_text.specs.declared.line.Line.{Line}
 use Rattle.box_check.specs.declared.bounds.Bounds.{Bounds}
 use Rattle.box_check.specs.Bounds.{IsOver, HasSlot, Stands, Extends, IsSame}
-use Rattle.open_levels.specs.declared.level.OpenLevel.{OpenLevel}
 use Rattle.open_levels.specs.declared.levels.OpenLevels.{OpenLevels}
 use Rattle.open_levels.specs.Adds.{Adds}
 use Rattle.open_levels.specs.declared.lemma.Shown.{Shown}
 use Rattle.open_levels.specs.declared.lemma.Shown.TheVariants as shown
 use Rattle.open_levels.specs.Shown.{IsShown, Keeps}
-use Rattle.open_levels.specs.Kept.{levels_of, stage_of, AreLevels, GoalFits}
+use Rattle.open_levels.specs.Stack.{OpenLevel, levels_of}
+use Rattle.open_levels.specs.Kept.{stage_of, AreLevels, GoalFits}
 use Rattle.open_levels.proofs.AddsLaws.{has_slot, over_later}
 use Rattle.tree_check.specs.declared.boxes.OpenBoxes.{OpenBoxes}
 use Rattle.tree_check.specs.Boxes.{Stand, IsNext}
@@ -47,21 +47,18 @@ pub levels_same : (system : System) (cost : Term) (levels : OpenLevels) (bounds 
 levels_same system cost levels bounds kept same = record {
   last = kept.last;
   enclosing = kept.enclosing;
-  below = kept.below;
-  below_around = kept.below_around;
-  box = has_box_same system cost levels.last levels.enclosing.items levels.bounds bounds kept.box same;
-  around = around_later system cost levels.last.mark levels.enclosing.items levels.bounds bounds (same_extends levels.bounds bounds same) kept.around;
+  box = has_box_same system cost levels.stack.last levels.stack.enclosing levels.bounds bounds kept.box same;
+  around = around_later system cost levels.stack.last.mark levels.stack.enclosing levels.bounds bounds (same_extends levels.bounds bounds same) kept.around;
 }
 
--- what hints show, of slices that are a clause, hints and levels
-pub shown_at : (system : System) (last : OpenLevel) (box : List Lit) (clause lits : List Lit) (hints numbers : List ℕ) (enclosing slice : List OpenLevel) (answer shown : Shown)
-    → lits ≡ clause → numbers ≡ hints → slice ≡ enclosing → answer ≡ shown → IsShown lits numbers box (known system (levels_of last slice)) answer
+-- what hints show, of slices that are a clause and hints
+pub shown_at : (system : System) (last : OpenLevel) (box : List Lit) (clause lits : List Lit) (hints numbers : List ℕ) (enclosing : List OpenLevel) (answer shown : Shown)
+    → lits ≡ clause → numbers ≡ hints → answer ≡ shown → IsShown lits numbers box (known system (levels_of last enclosing)) answer
     → IsShown clause hints box (known system (levels_of last enclosing)) shown
-shown_at system last box clause lits hints numbers enclosing slice answer shown lits_are numbers_are slice_is is shows =
+shown_at system last box clause lits hints numbers enclosing answer shown lits_are numbers_are is shows =
     subst (λ (a : Shown). IsShown clause hints box (known system (levels_of last enclosing)) a) is
-    (subst (λ (ls : List OpenLevel). IsShown clause hints box (known system (levels_of last ls)) answer) slice_is
-    (subst (λ (ns : List ℕ). IsShown clause ns box (known system (levels_of last slice)) answer) numbers_are
-    (subst (λ (c : List Lit). IsShown c numbers box (known system (levels_of last slice)) answer) lits_are shows)))
+    (subst (λ (ns : List ℕ). IsShown clause ns box (known system (levels_of last enclosing)) answer) numbers_are
+    (subst (λ (c : List Lit). IsShown c numbers box (known system (levels_of last enclosing)) answer) lits_are shows))
 
 pub keeps_at : (old new : Bounds) (answer : Shown) → answer ≡ shown.Follows → Keeps answer old new → IsSame old new
 keeps_at old new answer is keeps = subst (λ (a : Shown). Keeps a old new) is keeps
@@ -71,12 +68,12 @@ module _ (base : Base) where
       → mark ≡ length levels.bounds.changes.items → All (NamesTerm base.system.now) clause → Adds (map negation clause) levels.bounds bounds
       → ((from now : Bounds) (box : List Lit) → Extends from now → Stands now box → Stand from now boxes (box ∷ []))
       → IsTheory base (record { levels = record levels { bounds = bounds }; clause = clause; mark = mark; boxes = boxes })
-      ((map negation clause ++ box_of base.system.now base.cost (levels_of levels.last levels.enclosing.items)) ∷ [])
+      ((map negation clause ++ box_of base.system.now base.cost (levels_of levels.stack.last levels.stack.enclosing)) ∷ [])
   theory_starts levels bounds clause mark boxes kept mark_is named adds starts =
-      let box = box_of base.system.now base.cost (levels_of levels.last levels.enclosing.items) in record {
+      let box = box_of base.system.now base.cost (levels_of levels.stack.last levels.stack.enclosing) in record {
         before = levels.bounds;
         mark = mark_is;
-        levels = record { last = kept.last; enclosing = kept.enclosing; below = kept.below; below_around = kept.below_around; box = kept.box; around = kept.around };
+        levels = record { last = kept.last; enclosing = kept.enclosing; box = kept.box; around = kept.around };
         named = named;
         stand = starts levels.bounds bounds (map negation clause ++ box) adds.extends (adds.stands box kept.box.stands);
       }
@@ -93,8 +90,6 @@ module _ (base : Base) where
     levels = record {
       last = t.levels.last;
       enclosing = t.levels.enclosing;
-      below = t.levels.below;
-      below_around = t.levels.below_around;
       box = t.levels.box;
       around = t.levels.around;
     };
@@ -141,8 +136,6 @@ module _ (base : Base) where
     levels = record {
       last = t.levels.last;
       enclosing = t.levels.enclosing;
-      below = t.levels.below;
-      below_around = t.levels.below_around;
       box = t.levels.box;
       around = t.levels.around;
     };
@@ -153,7 +146,7 @@ module _ (base : Base) where
   pub levels_back : (theory : Theory) (bounds : Bounds) (t : IsRefuted base theory) → IsSame t.before bounds → AreLevels base.system.now base.cost (record theory.levels { bounds = bounds })
   levels_back theory bounds t same =
       let back = levels_same base.system.now base.cost (record theory.levels { bounds = t.before }) bounds t.levels same in
-      record { last = back.last; enclosing = back.enclosing; below = back.below; below_around = back.below_around; box = back.box; around = back.around }
+      record { last = back.last; enclosing = back.enclosing; box = back.box; around = back.around }
 
   -- a split or a leaf stands for what it gives where some box is left
   pub node_line : (theory : Theory) (l m : Line) (Gives : List Lit → List (List Lit) → Outcome → Type 0) → l ≡ m

@@ -160,6 +160,6 @@ fn ended(base: &Base, theory: Theory) -> Result<Found, NoMemory>
         ..
     } = theory;
     levels.bounds.back_to(mark);
-    let later = levels.with_clause(base.system, base.cost, clause)?;
+    let later = levels.with_clause(base.system, base.cost, clause.items())?;
     Ok(Found::At(Kept::Step(later)))
 }

@@ -60,18 +60,17 @@ fn lemma(base: &Base, mut levels: OpenLevels, clause: Lits, hints: Hints) -> Res
     if !names_terms(base.system, lits) {
         return Ok(Found::Failed(Reason::OutOfRange));
     }
-    if !are_below(numbers, levels.next) {
+    if !are_below(numbers, levels.stack.next()) {
         return Ok(Found::Failed(Reason::OutOfRange));
     }
     let available = Available {
         system: base.system,
-        last: &levels.last,
-        enclosing: levels.enclosing.as_slice(),
+        stack: &levels.stack,
     };
     let shown = follow_hints(&mut levels.bounds, &available, lits, numbers)?;
     match shown {
         Shown::Follows => {
-            let later = levels.with_clause(base.system, base.cost, clause)?;
+            let later = levels.with_clause(base.system, base.cost, lits)?;
             return Ok(Found::At(Kept::Step(later)));
         }
         Shown::Open => return Ok(Found::Failed(Reason::Hints)),
@@ -135,9 +134,9 @@ fn cut(base: &Base, levels: OpenLevels, term: Term, bound: i128) -> Result<Found
 
 // Whether one level more may stand open.
 fn may_nest(levels: &OpenLevels) -> bool
-    ensures { IsTrue result ↔ (length levels.now.enclosing.items < MOST_NESTED) }
+    ensures { IsTrue result ↔ (length levels.now.stack.enclosing < MOST_NESTED) }
 {
-    levels.enclosing.len() < MOST_NESTED as usize
+    levels.stack.around() < MOST_NESTED as usize
 }
 
 // Opens the level of a cut.
@@ -150,7 +149,7 @@ fn enter(base: &Base, levels: OpenLevels, term: Term, bound: i128) -> Result<Fou
     ensures { IfOk result (Comes base.now (GoesTo
         (AtStep (after_enter (stage_of levels) term bound)))) }
 {
-    let inner = levels.entered(base.alloc, base.system, base.cost, term, bound)?;
+    let inner = levels.entered(base.system, base.cost, term, bound)?;
     Ok(Found::At(Kept::Step(inner)))
 }
 
@@ -161,8 +160,8 @@ fn end(base: &Base, levels: OpenLevels) -> Result<Found, NoMemory>
     requires ended { has_ended (stage_of levels) ≡ true }
     ensures { IfOk result (Comes base.now (EndGives (stage_of levels))) }
 {
-    let goal = levels.last.goal;
-    let outer = levels.closed(base.alloc, base.system, base.cost)?;
+    let goal = levels.stack.goal();
+    let outer = levels.closed(base.system, base.cost)?;
     match outer {
         Some(outer) => return Ok(Found::At(Kept::Step(outer))),
         None => return Ok(Found::At(Kept::End(goal))),

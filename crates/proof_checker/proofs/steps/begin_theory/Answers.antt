@@ -4,7 +4,8 @@ use Rattle.mix_system.specs.declared.literal.Lit.{Lit}
 use Rattle.mix_system.specs.Lit.{negation}
 use Rattle.proof_term.specs.Levels.{box_of}
 use Rattle.proof_term.specs.Steps.{NamesTerm}
-use Rattle.open_levels.specs.Kept.{levels_of, stage_of}
+use Rattle.open_levels.specs.Stack.{levels_of}
+use Rattle.open_levels.specs.Kept.{stage_of}
 use Rattle.proof_checker.specs.Place.{InTree}
 use Rattle.proof_checker.proofs.KeptLaws.{theory_starts}
 use Rattle.proof_checker.proofs.steps.begin_theory.Goals as goal
@@ -27,7 +28,7 @@ returns-in-Some c =
 pub returns-in-None : goal.returns-in-None
 returns-in-None c =
     let base = c.args.base.now in
-    let box = box_of base.system.now base.cost (levels_of c.args.levels.last c.args.levels.enclosing.items) in
+    let box = box_of base.system.now base.cost (levels_of c.args.levels.stack.last c.args.levels.stack.enclosing) in
     let named = rw c.items-lits.ensures at (c.names_terms.ensures.0 c.if-not-names_terms.false) in
     let adds = rw (c.in-None.is, c.items-lits.ensures) at c.in_ok-excess.ensures.adds in
     let steps = rw (c.in-None.is, c.items-lits.ensures) at c.in_ok-excess.ensures.steps in

@@ -1,62 +1,42 @@
-use Rattle.std.proofs.Common.{◌≡◌, ◌+◌, ◌<◌, ◌∷◌, List, length, sym, ◌∙◌, ap, subst, refl, true, All, rules}
-use Rattle.mix_system.specs.declared.literal.Lit.{Lit}
-use Rattle.proof_term.specs.Steps.{NamesTerm}
-use Rattle.box_check.proofs.BoundsLaws.{Extends_more, same_extends}
-use Rattle.open_levels.specs.declared.level.OpenLevel.{OpenLevel}
-use Rattle.open_levels.specs.Kept.{AreAround}
-use Rattle.open_levels.proofs.BoxLaws.{has_box_same, has_box_cut, around_later}
-use Rattle.open_levels.proofs.KeptLaws.{cut_named, level_with_step, first_and_rest, outer_kept, outer_below, step_below, all_below_later}
+use Rattle.std.proofs.Common.{◌≡◌, ◌+◌, ◌<◌, ◌∷◌, [], List, length, map, true, sym, ◌∙◌, ap, arith}
+use Rattle.std.proofs.lemmas.List.{reverse-append}
+use Rattle.proof_term.specs.declared.proof.Goal.{Goal}
+use Rattle.proof_term.specs.Levels.{Finished, cut_clause}
+use Rattle.proof_term.specs.Valid.{closed}
+use Rattle.open_levels.specs.Stack.{OpenLevel, Stack, level_of, levels_of, ended_on}
+use Rattle.open_levels.proofs.KeptLaws.{first_around, sound_back, levels_closed}
 use Rattle.open_levels.proofs.levels.OpenLevels.closed.Goals as goal
 
-pub put_unit_everywhere-requires-clause-over : goal.put_unit_everywhere-requires-clause-over
-put_unit_everywhere-requires-clause-over c =
-    let system = c.args.system.now in
-    let levels = c.args.self.enclosing.items in
-    let outer = c.remove-outer.result in
-    let rest = c.remove-outer.new.self.items in
-    let some : 0 < length levels = search rules in
-    let parts : levels ≡ outer ∷ rest =
-    first_and_rest levels outer some c.remove-outer.ensures.value ∙ ap (λ (rest : List OpenLevel). outer ∷ rest) (sym c.remove-outer.ensures.items) in
-    let around : AreAround system c.args.cost c.args.self.last.mark (outer ∷ rest) c.args.self.bounds =
-    subst (λ (ls : List OpenLevel). AreAround system c.args.cost c.args.self.last.mark ls c.args.self.bounds) parts c.requires.kept.around in
-    let same = c.close.ensures around.0 around.1.extends around.1.mark_is in
-    (has_box_same system c.args.cost outer rest around.0 c.close.new.self around.2 same).sound
+pub end_cut-requires-clause-over : goal.end_cut-requires-clause-over
+end_cut-requires-clause-over c =
+    let some : 0 < length c.args.self.stack.enclosing = omega (arith, c.if-around-eq0.false, c.around.ensures) in
+    let found = first_around c.args.self.stack.enclosing some in
+    sound_back c.args.system.now c.args.cost c.args.self found.0 found.1 c.requires.kept found.2 c.close.new.self (λ start extends is. c.close.ensures start extends (c.mark.ensures ∙ is))
 
-pub put_unit_everywhere-requires-clause-named : goal.put_unit_everywhere-requires-clause-named
-put_unit_everywhere-requires-clause-named c =
-    let system = c.args.system.now in
-    let named : All (NamesTerm system) c.in_ok-clause.clause =
-    subst (λ (clause : List Lit). All (NamesTerm system) clause) (sym c.in_ok-clause.ensures) (cut_named system c.args.self.last.goal c.requires.kept.last.goal) in
-    rw c.items.ensures named
+pub returns-clause-stage : goal.returns-clause-stage
+returns-clause-stage c =
+    let old = c.args.self.stack in
+    let some : 0 < length old.enclosing = omega (arith, c.if-around-eq0.false, c.around.ensures) in
+    let found = first_around old.enclosing some in
+    let outer = found.0 in
+    let step : Finished = record { number = old.next; clause = cut_clause old.last.goal; is_cut = true } in
+    let stack_is =
+    c.in_ok-end_cut.ensures.ends ∙ ap (λ (s : Stack). ended_on s (cut_clause c.goal-goal.result) true) (c.close-2.ensures outer found.1 found.2)
+    ∙ ap (λ (g : Goal). ended_on (record old { last = outer; enclosing = found.1 }) (cut_clause g) true) c.goal-goal.ensures in
+    ap (λ (s : Stack). record { next = s.next; levels = levels_of s.last s.enclosing }) stack_is
+    ∙ ap (λ (fs : List Finished). record { next = old.next + 1; levels = record { last = record { goal = outer.goal; finished = fs }; enclosing = map level_of found.1 } }) (reverse-append outer.ended (step ∷ []))
+    ∙ ap (λ (levels : List OpenLevel). closed old.next (level_of old.last) (map level_of levels)) (sym found.2)
 
 pub returns-clause-kept : goal.returns-clause-kept
 returns-clause-kept c =
-    let system = c.args.system.now in
-    let levels = c.args.self.enclosing.items in
-    let outer = c.remove-outer.result in
-    let rest = c.remove-outer.new.self.items in
-    let some : 0 < length levels = search rules in
-    let parts : levels ≡ outer ∷ rest =
-    first_and_rest levels outer some c.remove-outer.ensures.value ∙ ap (λ (rest : List OpenLevel). outer ∷ rest) (sym c.remove-outer.ensures.items) in
-    let kept = outer_kept system levels rest outer parts c.requires.kept.enclosing in
-    let below = outer_below c.args.self.next levels rest outer parts c.requires.kept.below_around in
-    let more : c.in-Some.later ≡ c.args.self.next + 1 = search rules in
-    let named : All (NamesTerm system) c.in_ok-clause.clause =
-    subst (λ (clause : List Lit). All (NamesTerm system) clause) (sym c.in_ok-clause.ensures) (cut_named system c.args.self.last.goal c.requires.kept.last.goal) in
-    let around : AreAround system c.args.cost c.args.self.last.mark (outer ∷ rest) c.args.self.bounds =
-    subst (λ (ls : List OpenLevel). AreAround system c.args.cost c.args.self.last.mark ls c.args.self.bounds) parts c.requires.kept.around in
-    let same = c.close.ensures around.0 around.1.extends around.1.mark_is in
-    let before_box = has_box_same system c.args.cost outer rest around.0 c.close.new.self around.2 same in
-    let adds = rw c.items.ensures at c.in_ok-put_unit_everywhere.ensures.here in
-    let adds_everywhere = rw c.items.ensures at c.in_ok-put_unit_everywhere.ensures.adds in
-    record {
-      last = level_with_step system c.args.self.next outer _ (record { number = c.args.self.next; clause = c.in_ok-clause.clause; is_cut = true }) kept.0 named refl below.0 refl
-          c.in_ok-push.ensures.items;
-      enclosing = kept.1;
-      below = step_below c.args.self.next c.in-Some.later outer c.push.new.self.items (record { number = c.args.self.next; clause = c.in_ok-clause.clause; is_cut = true }) refl more c.in_ok-push.ensures.items below.0;
-      below_around = all_below_later c.args.self.next c.in-Some.later rest more below.1;
-      box = has_box_cut system outer _ rest (record { number = c.args.self.next; clause = c.in_ok-clause.clause; is_cut = true }) c.in_ok-push.ensures.items c.args.cost
-          c.close.new.self c.put_unit_everywhere.new.bounds refl before_box refl adds adds_everywhere c.in_ok-put_unit_everywhere.ensures.over;
-      around = around_later system c.args.cost outer.mark rest around.0 c.put_unit_everywhere.new.bounds
-          (Extends_more around.0 c.close.new.self c.put_unit_everywhere.new.bounds (same_extends around.0 c.close.new.self same) adds.extends) around.3;
-    }
+    let old = c.args.self.stack in
+    let some : 0 < length old.enclosing = omega (arith, c.if-around-eq0.false, c.around.ensures) in
+    let found = first_around old.enclosing some in
+    let outer = found.0 in
+    let stack_is =
+    c.in_ok-end_cut.ensures.ends ∙ ap (λ (s : Stack). ended_on s (cut_clause c.goal-goal.result) true) (c.close-2.ensures outer found.1 found.2)
+    ∙ ap (λ (g : Goal). ended_on (record old { last = outer; enclosing = found.1 }) (cut_clause g) true) c.goal-goal.ensures in
+    let adds = rw c.goal-goal.ensures at c.in_ok-end_cut.ensures.adds in
+    let here = rw c.goal-goal.ensures at c.in_ok-end_cut.ensures.here in
+    levels_closed c.args.system.now c.args.cost c.args.self outer found.1 c.requires.kept found.2 c.close.new.self (λ start extends is. c.close.ensures start extends (c.mark.ensures ∙ is))
+    c.end_cut.new.stack c.end_cut.new.bounds stack_is adds here c.in_ok-end_cut.ensures.over
