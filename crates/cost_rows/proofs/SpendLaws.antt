@@ -239,7 +239,6 @@ module _ (it : SoundFunc) (sound : IsSound it) (costs : PositionCosts) (inside :
   row_spends is marks blocks_size edges_size =
       row_of-value point (spend_parts costs inside it.flow.edges block_vars edge_vars) ∙ parts_value marks edges_size ∙ ap pos (sums path is)
     where
-
       sums : (path : List ℕ) → IsPath it.flow.edges path
           → counted (λ at. cond (inside at) (costs.block at) 0) (passes path) 0 (length block_vars) + taken (λ edge. cond (inside edge.from) (costs.edge edge.from edge.to) 0) (takes path) it.flow.edges ≡ spends_in costs inside path
       sums [] is = absurd is
