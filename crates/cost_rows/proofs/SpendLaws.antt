@@ -1,13 +1,12 @@
 -- At a point that marks a path, the row of some blocks is what the path spends in them.
-use Rattle.std.proofs.Common.{◌≡◌, ◌≢◌, ◌<◌, ◌≤◌, ◌+◌, ◌⊎◌, inl, inr, ⊎_elim, ℕ, zero, suc, Bool, true, false, ◌||◌, ◌&&◌, cond, eqb, ℤ, pos, ◌+ℤ◌, ◌*ℤ◌, List, [], ◌∷◌, ◌++◌, length, get_or, refl, sym, ◌∙◌, ap, subst, arith}
-use Rattle.std.specs.List.{AllPairs, Contains}
-use Rattle.std.proofs.lemmas.Bool.{cases_lt, true≢false}
+use Rattle.std.proofs.Common.{◌≡◌, ◌<◌, ◌≤◌, ◌+◌, ◌⊎◌, ⊎_elim, ℕ, zero, suc, Bool, true, false, ◌||◌, ◌&&◌, cond, eqb, ℤ, pos, ◌*ℤ◌, List, [], ◌∷◌, length, get_or, refl, sym, ◌∙◌, ap, subst, arith}
+use Rattle.std.specs.List.{Contains}
+use Rattle.std.proofs.lemmas.Bool.{cases_lt}
 use Rattle.std.proofs.lemmas.Bool.Decides.{Decides-eqb, nat_tests}
 use Rattle.std.proofs.lemmas.Int.{ints}
-use Rattle.std.proofs.lemmas.List.Elements.{Contains-get_or}
 use Rattle.flow_graph.specs.declared.edge.Edge.{Edge}
 use Rattle.flow_graph.specs.Paths.{HasEdge}
-use Rattle.flow_graph.specs.Sorted.{AreSorted, ComesBefore}
+use Rattle.flow_graph.specs.Sorted.{AreSorted}
 use Rattle.block_order.specs.Walk.{IsChain}
 use Rattle.flow_rules.proofs.OrderLaws.{flow_forward}
 use Rattle.ll_flow.proofs.PlaceLaws.{no_item, cons_cases}
@@ -15,12 +14,11 @@ use Rattle.ll_verifier.specs.Sound.{SoundFunc, IsSound}
 use Rattle.mix_system.specs.declared.row.Part.{Part}
 use Rattle.mix_system.specs.Row.{number_at, row_value}
 use Rattle.mix_system.proofs.SumLaws.{int_sum_by-append}
-use Rattle.wrap_rows.specs.Layout.{times}
 use Rattle.wrap_rows.specs.Normal.{row_of}
 use Rattle.wrap_rows.specs.Piece.{mark_of}
 use Rattle.wrap_rows.proofs.CaseLaws.{by_test}
 use Rattle.wrap_rows.proofs.SumLaws.{row_of-value}
-use Rattle.portion_cuts.specs.Paths.{PositionCosts, costs_at, IsPath, staying_in, leaving_in, spends_in, passes, takes}
+use Rattle.portion_cuts.specs.Paths.{PositionCosts, IsPath, spends_in, passes, takes}
 use Rattle.portion_cuts.proofs.BestLaws.{edge_at, Rising, rising, forward_in}
 use Rattle.cost_rows.specs.Rows.{block_parts, edge_parts, spend_parts, MarksPath}
 
@@ -239,7 +237,6 @@ module _ (it : SoundFunc) (sound : IsSound it) (costs : PositionCosts) (inside :
   row_spends is marks blocks_size edges_size =
       row_of-value point (spend_parts costs inside it.flow.edges block_vars edge_vars) ∙ parts_value marks edges_size ∙ ap pos (sums path is)
     where
-
       sums : (path : List ℕ) → IsPath it.flow.edges path
           → counted (λ at. cond (inside at) (costs.block at) 0) (passes path) 0 (length block_vars) + taken (λ edge. cond (inside edge.from) (costs.edge edge.from edge.to) 0) (takes path) it.flow.edges ≡ spends_in costs inside path
       sums [] is = absurd is

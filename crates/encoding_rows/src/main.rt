@@ -2,9 +2,12 @@
 //! rows are the file `stdin`, and what they give, found by hand, is the file `stdout`.
 #![tactic(auto)]
 
+mod costs;
+mod function;
 mod portions;
 mod texts;
 
+use crate::function::{Asked, function_row};
 use std::alloc::Global;
 use std::io;
 use wx_base::NoMemory;
@@ -12,7 +15,8 @@ use wx_base::NoMemory;
 // What a row gives: its first word says which call it is.
 fn answer(alloc: Global, of: &str, call: &str) -> Result<String, NoMemory> {
     match of {
-        "portions" => portions::portions_row(alloc, call),
+        "portions" => function_row(alloc, Asked::Portions, call),
+        "rows" => function_row(alloc, Asked::Rows, call),
         _ => texts::no_row(alloc),
     }
 }

@@ -1,5 +1,4 @@
-use Rattle.std.proofs.Common.{◌≡◌, ◌<◌, ◌+◌, ◌++◌, ◌∷◌, [], List, pos, cond, length, get_or, drop, append_assoc, rules, ap, sym, subst, ◌∙◌, arith}
-use Rattle.std.specs.Prelude.{unsigned_abs}
+use Rattle.std.proofs.Common.{◌≡◌, ◌<◌, ◌+◌, ◌++◌, ◌∷◌, [], List, pos, length, get_or, drop, append_assoc, rules, ap, sym, subst, ◌∙◌, arith}
 use Rattle.std.proofs.lemmas.List.{length-map}
 use Rattle.ll_verifier.specs.Order.{position_edge}
 use Rattle.mix_system.specs.declared.row.Part.{Part}

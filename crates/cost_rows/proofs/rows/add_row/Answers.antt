@@ -1,5 +1,4 @@
-use Rattle.std.proofs.Common.{◌≡◌, ◌<◌, ◌+◌, ◌*◌, ◌^◌, ◌++◌, ℕ, [], false, length, get_or, ap, sym, subst, ◌∙◌, refl, arith}
-use Rattle.wrap_rows.specs.Normal.{sizes, row_of}
+use Rattle.std.proofs.Common.{length, sym, subst}
 use Rattle.cost_rows.proofs.PartLaws.{AreKnown, none_known}
 use Rattle.cost_rows.proofs.rows.add_row.Goals as goal
 

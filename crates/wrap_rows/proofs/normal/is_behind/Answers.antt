@@ -1,4 +1,4 @@
-use Rattle.std.proofs.Common.{◌<◌, ◌≤◌, ◌-◌, ◌≡◌, ⊎_elim, ℕ, pos, length, get_or, ltb, true, ap, subst, arith}
+use Rattle.std.proofs.Common.{◌<◌, ◌-◌, ◌≡◌, ⊎_elim, ℕ, pos, length, get_or, ltb, true, subst, arith}
 use Rattle.std.proofs.lemmas.Bool.{cases_lt}
 use Rattle.std.proofs.lemmas.Bool.Decides.{nat_tests}
 use Rattle.std.proofs.lemmas.List.{get_or_default}
