@@ -2,6 +2,8 @@ pub mod AimLaws
 pub mod AnalysisLaws
 pub mod KeptLaws
 pub mod LearntLaws
+pub mod LatestLaws
+pub mod ListedLaws
 pub mod LookLaws
 pub mod MarkLaws
 pub mod PropagationLaws
@@ -9,3 +11,5 @@ pub mod QuietLaws
 pub mod ReasonLaws
 pub mod RunLaws
 pub mod SpanLaws
+pub mod VisitLaws
+pub mod WatchLaws

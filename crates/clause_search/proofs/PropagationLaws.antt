@@ -1,22 +1,22 @@
 -- Literals that clauses imply, put one after another, and what looks at clauses come to.
-use Rattle.std.proofs.Common.{◌≡◌, ℕ, ◌+◌, ◌<◌, ◌≤◌, List, [], ◌∷◌, ◌++◌, length, length-append, Some, All, refl, sym, ap, ◌∙◌, subst, ⊎_elim, arith}
+use Rattle.std.proofs.Common.{inl, ◌≡◌, ℕ, ◌+◌, ◌<◌, ◌≤◌, List, [], ◌∷◌, ◌++◌, length, length-append, Some, All, refl, sym, ap, ◌∙◌, subst, ⊎_elim, arith}
 use Rattle.std.specs.Prelude.{slice_get, Any}
 use Rattle.std.proofs.lemmas.Bool.{cases_lt}
-use Rattle.std.proofs.lemmas.List.{append_assoc, get_or_append_left, get_or_push, get_or_at, take-append-le, take_at, length_push}
+use Rattle.std.proofs.lemmas.List.{append-nil, append_assoc, get_or_append_left, get_or_push, get_or_at, take-append-le, take_at, length_push}
 use Rattle.std.proofs.lemmas.Option.{slice_get_within, get_or_from_slice_get}
 use Rattle.mix_system.specs.declared.literal.Lit.{Lit}
 use Rattle.mix_system.specs.declared.tally.Tally.{Tally}
 use Rattle.mix_system.specs.declared.tally.Work.TheVariants.{Propagation}
 use Rattle.mix_system.specs.Tally.{units, CountsOne}
-use Rattle.mix_system.specs.Bounds.{IsIn}
+use Rattle.mix_system.specs.Bounds.{Entails, IsIn, range_bounds}
 use Rattle.mix_system.specs.Follows.{LeavesOne}
 use Rattle.bound_trail.specs.Trail.{box, IsOpen}
 use Rattle.clause_search.specs.Settled.{IsSettled}
 use Rattle.clause_search.specs.Looks.{IsImplied}
 use Rattle.clause_search.specs.Search.{Search, IsImpliedAt, Propagated}
-use Rattle.clause_search.specs.Passed.{IsSettledAt, Leaves, Ends, SoFar, IsGoing}
-use Rattle.clause_search.specs.declared.propagate.Pass.{Pass}
-use Rattle.clause_search.specs.declared.propagate.Pass.TheVariants.{Still, Moved, Stopped}
+use Rattle.clause_search.specs.Passed.{IsSettledAt}
+use Rattle.bound_trail.proofs.AnywhereLaws.{any_here, any_right}
+use Rattle.bound_trail.proofs.EntailmentLaws.{entails_itself}
 use Rattle.clause_search.proofs.ReasonLaws.{with_lit}
 
 -- what holds of each literal of a clause holds of the one that is left
@@ -107,38 +107,30 @@ units_grow old new before after p =
     let c = p.counted in
     omega (arith, c.decisions, c.propagations, c.conflicts, c.splits, c.checks)
 
--- what the looks so far come to after one more
-so_far_still : (pass : Pass) (at : ℕ) (new : Search) (before between after : Tally) → SoFar pass at new before between → after ≡ between → IsSettledAt new at → SoFar pass (at + 1) new before after
-so_far_still Still at new before between after so same settled = λ k below.
-    ⊎_elim (λ h. so k h) (λ past. let e : at ≡ k = omega arith in subst (λ n. IsSettledAt new n) e settled) (cases_lt k at)
-so_far_still Moved at new before between after so same settled =
-    subst (λ t. units before < units t) (sym same) so
-so_far_still (Stopped spread) at new before between after so same settled = so
+-- nothing was put
+pub propagated_none : (state : Search) (tally : Tally) → Propagated state state tally tally
+propagated_none state tally = record {
+  added = [];
+  lits = ap (λ (xs : List Lit). record state { trail = record state.trail { lits = xs } }) (sym (append-nil state.trail.lits));
+  implied = λ at from to. absurd (omega arith);
+  counted = record {
+    decisions = refl;
+    propagations = omega arith;
+    conflicts = refl;
+    splits = refl;
+    checks = refl;
+    budget = refl;
+  };
+}
 
-pub going_still : (pass : Pass) (at : ℕ) (old mid new : Search) (before between after : Tally) (result : Pass) → result ≡ Still → IsGoing pass at old mid before between → Propagated mid new between after → Leaves result at mid new between after → IsGoing pass (at + 1) old new before after
-going_still pass at old mid new before between after result is going moved leaves =
-    let still : Leaves Still at mid new between after = subst (λ r. Leaves r at mid new between after) is leaves in
+-- a clause whose implied literal was put has a true literal
+pub settled_implied : (state : Search) (lit : Lit) (number : ℕ) (clause : List Lit) → slice_get state.store number ≡ Some clause → LeavesOne (box state.trail) clause lit → IsSettledAt (with_lit state lit) number
+settled_implied state lit number clause among one =
+    let lits = state.trail.lits in
+    let P : Lit → Type 0 = λ bound. Entails bound lit in
+    let is_true : IsIn (box (with_lit state lit).trail) lit = any_right P (range_bounds state.trail.ranges) (lits ++ lit ∷ []) (any_right P lits (lit ∷ []) (any_here P lit [] (entails_itself lit))) in
     record {
-      propagated = propagated_trans old mid new before between after going.propagated moved;
-      so_far = so_far_still pass at new before between after (subst (λ s. SoFar pass at s before between) (sym still.0) going.so_far) still.1 still.2;
+      clause = clause;
+      among = among;
+      settled = inl (any_left_one (IsIn (box (with_lit state lit).trail)) (box state.trail) clause lit one is_true);
     }
-
-pub going_moved : (pass : Pass) (at : ℕ) (old mid new : Search) (before between after : Tally) (result : Pass) → result ≡ Moved → IsGoing pass at old mid before between → Propagated mid new between after → Leaves result at mid new between after → IsGoing Moved (at + 1) old new before after
-going_moved pass at old mid new before between after result is going moved leaves =
-    let more : units between < units after = subst (λ r. Leaves r at mid new between after) is leaves in
-    let grown = units_grow old mid before between going.propagated in
-    record {
-      propagated = propagated_trans old mid new before between after going.propagated moved;
-      so_far = omega arith;
-    }
-
-settled_each : (state : Search) (at : ℕ) → at ≡ length state.store → ((k : ℕ) → k < at → IsSettledAt state k) → All (IsSettled (box state.trail)) state.store
-settled_each state at e each k d h =
-    let here = each k (omega arith) in
-    subst (IsSettled (box state.trail)) (sym (get_or_from_slice_get state.store k here.clause d here.among)) here.settled
-
-pub going_ends : (pass : Pass) (at : ℕ) (old new : Search) (before after : Tally) → at ≡ length old.store → IsGoing pass at old new before after → Ends pass old new before after
-going_ends Still at old new before after e going =
-    settled_each new at (e ∙ sym (ap (λ (s : Search). length s.store) going.propagated.lits)) going.so_far
-going_ends Moved at old new before after e going = going.so_far
-going_ends (Stopped spread) at old new before after e going = absurd going.so_far

@@ -16,7 +16,7 @@ use Rattle.clause_search.specs.Learnt.{BecameFalseBy, IsAsserting}
 use Rattle.clause_search.proofs.LearntLaws.{ends_rise}
 
 -- the same bounds at the end of a level, after more literals and levels
-same_end : (trail : Trail) (more : List Lit) (levels : List ℕ) (level : ℕ) → IsTrail trail → level < length trail.levels → box_at (record trail { lits = trail.lits ++ more; levels = trail.levels ++ levels }) level ≡ box_at trail level
+pub same_end : (trail : Trail) (more : List Lit) (levels : List ℕ) (level : ℕ) → IsTrail trail → level < length trail.levels → box_at (record trail { lits = trail.lits ++ more; levels = trail.levels ++ levels }) level ≡ box_at trail level
 same_end trail more levels level ok h =
     let lits = trail.lits ++ more in
     let end = level_end trail level in
@@ -25,7 +25,7 @@ same_end trail more levels level ok h =
     get_or_append_left trail.levels levels (length lits) level h ∙ get_or_default trail.levels level (length lits) (length trail.lits) h in
     ap (λ n. range_bounds trail.ranges ++ take n lits) same ∙ ap (λ xs. range_bounds trail.ranges ++ xs) (take-append-le end trail.lits more within)
 
-same_end_only : (trail : Trail) (more : List Lit) (level : ℕ) → IsTrail trail → level < length trail.levels → box_at (record trail { lits = trail.lits ++ more }) level ≡ box_at trail level
+pub same_end_only : (trail : Trail) (more : List Lit) (level : ℕ) → IsTrail trail → level < length trail.levels → box_at (record trail { lits = trail.lits ++ more }) level ≡ box_at trail level
 same_end_only trail more level ok h =
     let lits = trail.lits ++ more in
     let end = level_end trail level in
@@ -57,7 +57,7 @@ quiet_decided old new lit before after ok quiet settled opens =
 abbrev pub cut_to : Trail → ℕ → Trail
 cut_to trail level = record trail { lits = take (level_end trail level) trail.lits; levels = take level trail.levels }
 
-same_cut : (trail : Trail) (level lower : ℕ) → IsTrail trail → level ≤ length trail.levels → lower < level → box_at (cut_to trail level) lower ≡ box_at trail lower
+pub same_cut : (trail : Trail) (level lower : ℕ) → IsTrail trail → level ≤ length trail.levels → lower < level → box_at (cut_to trail level) lower ≡ box_at trail lower
 same_cut trail level lower ok h below =
     let end = level_end trail level in
     let lits = take end trail.lits in

@@ -9,3 +9,5 @@ pub mod Stored
 pub mod Passed
 pub mod Search
 pub mod Settled
+pub mod Visited
+pub mod Watched

@@ -6,7 +6,7 @@ use Rattle.mix_system.specs.System.{IsClause}
 use Rattle.mix_system.specs.Follows.{LeavesOne}
 use Rattle.bound_trail.specs.Trail.{box_with, IsTrail}
 use Rattle.clause_search.specs.Search.{Search}
-use Rattle.clause_search.specs.declared.search.Search.TheInside.{Inside}
+use Rattle.clause_search.specs.declared.clause_trail.ClauseTrail.TheInside.{Inside}
 
 abbrev pub lists : Inside → Search
 lists it = record { store = it.clauses; trail = it.trail }

@@ -5,12 +5,13 @@ ghost use Rattle.clause_search.specs.Answers.{IsConflict};
 ghost use Rattle.clause_search.specs.Learnt.{Concludes, Teaches};
 ghost use Rattle.clause_search.specs.Runs.{IsAim};
 
-use crate::{Learnt, Search};
+use crate::Learnt;
+use crate::clause_trail::ClauseTrail;
 use mix_system::{Tally, Work};
 use std::alloc::Global;
 use wx_base::NoMemory;
 
-impl Search {
+impl ClauseTrail {
     /// Learns from a false clause, and counts a conflict; or answers `Spent` and counts nothing, exactly where the tally is at its budget.
     /// At the end of each level below the present one every clause had a true literal or two that weren't false.
     ///

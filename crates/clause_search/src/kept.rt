@@ -7,17 +7,18 @@ ghost use Rattle.clause_search.specs.Search.{known, single_bounds};
 ghost use Rattle.clause_search.specs.Marks.{lit_at, AreMarks};
 ghost use Rattle.clause_search.specs.Runs.{IsAim, IsReady, AreKept, IsBackLevel, IsLevelOf};
 
-use crate::Search;
+use crate::clause_trail::ClauseTrail;
 use crate::marks::Mark;
 use mix_system::{Hints, Lit, Lits};
 use std::alloc::Global;
 use wx_base::NoMemory;
 
-impl Search {
+impl ClauseTrail {
     /// The negations of the literals that are seen, in the order of the trail.
     pub(crate) fn kept(&self, alloc: Global, marks: &Vec<Mark>) -> Result<Lits, NoMemory>
         requires marks { AreMarks self.now marks.now.items }
-        ensures { IfOk result (AreKept self.now.trail marks.now.items (length self.now.trail.lits)) }
+        ensures { IfOk result (AreKept self.now.trail marks.now.items
+            (length self.now.trail.lits)) }
     {
         let mut kept = Lits::new(alloc);
         for at in 0..marks.len() {
@@ -82,7 +83,8 @@ impl Search {
         requires marks { AreMarks self.now marks.now.items }
         requires aim { IsAim self.now end last }
         requires trail { IsTrail self.now.trail }
-        ensures { IfOk result (λ hints. (lits : List Literal) → IsReady self.now marks.now.items lits end last →
+        ensures { IfOk result (λ hints. (lits : List Literal)
+            → IsReady self.now marks.now.items lits end last →
             Follows lits hints (single_bounds self.now) (known self.now)) }
     {
         let mut hints = Hints::new(alloc);

@@ -15,12 +15,16 @@ pub fn lower_levels_stay_quiet()
     ensures propagated { (old new : Search) (before after : Tally)
         → IsTrail old.trail → WasQuiet old → Propagated old new before after → WasQuiet new }
     ensures decided { (old new : Search) (lit : Lit) (before after : Tally)
-        → IsTrail old.trail → WasQuiet old → All (IsSettled (box old.trail)) old.store → OpensLevel lit old new before after → WasQuiet new }
+        → IsTrail old.trail → WasQuiet old → All (IsSettled (box old.trail)) old.store
+        → OpensLevel lit old new before after → WasQuiet new }
     ensures learnt { (state : Search) (lits : List Lit) (level : ℕ)
-        → IsTrail state.trail → WasQuiet state → level ≤ present_level state → IsAsserting state lits level
+        → IsTrail state.trail → WasQuiet state → level ≤ present_level state
+        → IsAsserting state lits level
         → WasQuiet (record {
           store = state.store ++ lits ∷ [];
-          trail = record state.trail
-              { lits = take (level_end state.trail level) state.trail.lits; levels = take level state.trail.levels };
+          trail = record state.trail {
+            lits = take (level_end state.trail level) state.trail.lits;
+            levels = take level state.trail.levels;
+          };
         }) }
 {}

@@ -4,15 +4,19 @@
 #![tactic(auto)]
 
 mod analyse;
+mod clause_trail;
 mod kept;
 mod laws;
 mod learnt;
 mod look;
 mod marks;
+mod pairs;
 mod propagate;
 mod search;
 mod spread;
 mod store;
+mod watch_lists;
+mod watches;
 
 pub use laws::lower_levels_stay_quiet;
 pub use learnt::Learnt;

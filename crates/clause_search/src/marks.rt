@@ -5,7 +5,7 @@ ghost use Rattle.mix_system.specs.Bounds.{IsFalseIn};
 ghost use Rattle.bound_trail.specs.Trail.{box};
 ghost use Rattle.clause_search.specs.Marks.{mark_at, IsSeen, AreMarks, IsLowest, MarksCause, MarksCauses, Resolves, FindsPoint, ResolvesFrom};
 
-use crate::Search;
+use crate::clause_trail::ClauseTrail;
 use mix_system::Lit;
 use std::alloc::Global;
 use wx_base::NoMemory;
@@ -21,7 +21,7 @@ pub enum Mark {
     Used(u32),
 }
 
-impl Search {
+impl ClauseTrail {
     /// No mark on any literal of the trail.
     pub(crate) fn no_marks(&self, alloc: Global) -> Result<Vec<Mark>, NoMemory>
         ensures marks { IfOk result (λ marks. AreMarks self.now marks.items) }
@@ -97,10 +97,12 @@ impl Search {
         lowest: u32,
         marks: &mut Vec<Mark>,
     ) -> u32
-        requires known { All (λ lit. Exists (length self.now.trail.ranges) self.now.trail.rows lit.term) clause.now }
+        requires known { All (λ lit. Exists
+            (length self.now.trail.ranges) self.now.trail.rows lit.term) clause.now }
         requires one_each { length marks.old.items ≡ length self.now.trail.lits }
         requires lowest { IsLowest start lowest marks.old.items }
-        ensures marks { MarksCauses self.now.trail clause.now (length clause.now) start result marks.old.items marks.new.items }
+        ensures marks { MarksCauses self.now.trail clause.now
+            (length clause.now) start result marks.old.items marks.new.items }
         ensures falls { result ≤ lowest }
     {
         let mut low = lowest;
@@ -119,7 +121,8 @@ impl Search {
         requires is_false { IsFalseIn (box self.now.trail) lit.now }
         requires one_each { length marks.old.items ≡ length self.now.trail.lits }
         requires lowest { IsLowest start lowest marks.old.items }
-        ensures marks { MarksCause self.now.trail lit.now start result marks.old.items marks.new.items }
+        ensures marks { MarksCause self.now.trail lit.now start result marks.old.items
+            marks.new.items }
         ensures falls { result ≤ lowest }
     {
         let Some(place) = self.bounds().cause(lit) else {

@@ -1,13 +1,17 @@
-ghost use Rattle.std.specs.Prelude.{◌≡◌, ◌+◌, ◌^◌, ◌<◌, ◌≤◌, ◌↔◌, [], ◌∷◌, ◌++◌, length, take, slice_get, Some, IsTrue, IfOk, OnOk, OnErr};
+ghost use Rattle.std.specs.Prelude.{◌≡◌, ◌<◌, ◌≤◌, ◌↔◌, [], ◌∷◌, ◌++◌, length, take, slice_get, Some, IsTrue, IfOk, OnOk, OnErr};
 ghost use Rattle.mix_system.specs.System.{IsInner, IsClause, Exists};
 ghost use Rattle.mix_system.specs.Bounds.{IsIn, IsFalseIn};
 ghost use Rattle.bound_trail.specs.Trail.{box, level_end, IsOpen, IsTrail};
+ghost use Rattle.clause_search.specs.Search.{WasQuiet, Propagated};
+ghost use Rattle.clause_search.specs.Answers.{IsConflict, Says};
 ghost use Rattle.clause_search.specs.Decided.{Decides};
-ghost use Rattle.clause_search.specs.Stored.{IsReason, AreClauses};
+ghost use Rattle.clause_search.specs.Learnt.{Teaches};
+ghost use Rattle.clause_search.specs.Stored.{AreClauses};
 
-use crate::store::ClauseStore;
-use bound_trail::BoundTrail;
-use mix_system::{Lit, System, Tally, Work};
+use crate::clause_trail::ClauseTrail;
+use crate::watches::Watches;
+use crate::{Learnt, Spread};
+use mix_system::{Lit, System, Tally};
 use std::alloc::Global;
 use std::marker::Model;
 use wx_base::NoMemory;
@@ -17,10 +21,8 @@ use wx_base::NoMemory;
 /// Contracts see the clauses by their numbers, and the trail with the ranges of the system's variables.
 #[derive(Debug, Drop)]
 pub struct Search {
-    clauses: ClauseStore,
-    trail: BoundTrail,
-    // Beside each literal of the trail the number of the clause that implied it, and nothing where it was decided.
-    reasons: Vec<Option<u32>>,
+    known: ClauseTrail,
+    watches: Watches,
 }
 
 impl Model for Search {
@@ -28,11 +30,11 @@ impl Model for Search {
 
     ghost Value = { State };
 
-    ghost use Rattle.clause_search.specs.Stored.{lists, IsSound};
+    ghost use Rattle.clause_search.specs.Watched.{IsRight};
 
-    ghost view = { lists };
+    ghost view = { λ it. it.known };
 
-    ghost invariant = { IsSound };
+    ghost invariant = { λ it. IsRight it.known it.watches };
 }
 
 impl Search {
@@ -40,18 +42,18 @@ impl Search {
     pub fn new(alloc: Global, system: &System) -> Result<Search, NoMemory>
         ensures store { IfOk result (λ search_. search_.store ≡ system.now.clauses) }
         ensures trail { IfOk result
-            (λ search_. search_.trail ≡ record { ranges = system.now.ranges; rows = length system.now.rows; lits = []; levels = [] }) }
+            (λ search_. search_.trail ≡ record {
+              ranges = system.now.ranges;
+              rows = length
+                  system.now.rows;
+              lits = [];
+              levels = [];
+            }) }
     {
-        let trail = BoundTrail::new(alloc, system)?;
-        let mut state = Search {
-            clauses: ClauseStore::new(alloc),
-            trail,
-            reasons: Vec::new(alloc),
-        };
-        for at in 0..system.clauses() {
-            state.add_clause(system.clause(at))?;
-        }
-        Ok(state)
+        let known = ClauseTrail::new(alloc, system)?;
+        let places = 2 * (system.vars() as usize + system.rows() as usize);
+        let watches = Watches::new(alloc, places)?;
+        Ok(Search { known, watches })
     }
 
     /// Adds a clause to the store, and gives its number.
@@ -61,15 +63,13 @@ impl Search {
     pub fn add_clause(&mut self, lits: &[Lit]) -> Result<u32, NoMemory>
         requires { IsClause (length self.old.trail.ranges) self.old.trail.rows lits.now }
         ensures number { IfOk result (λ number. number ≡ length self.old.store) }
-        ensures ok { OnOk result (self.new ≡ record self.old { store = self.old.store ++ lits.now ∷ [] }) }
+        ensures ok { OnOk result (self.new ≡ record self.old {
+          store = self.old.store ++ lits.now ∷
+              [];
+        }) }
         ensures err { OnErr result (self.new ≡ self.old) }
     {
-        let number = self.clauses.len();
-        if number >= MOST_CLAUSES {
-            return Err(NoMemory);
-        }
-        self.clauses.add(lits)?;
-        Ok(number as u32)
+        self.known.add_clause(lits)
     }
 
     /// How many clauses the store has.
@@ -78,7 +78,7 @@ impl Search {
         ensures clauses { AreClauses self.now }
         ensures trail { IsTrail self.now.trail }
     {
-        self.clauses.len() as u32
+        self.known.clauses()
     }
 
     /// The literals of a clause.
@@ -89,7 +89,7 @@ impl Search {
         ensures clauses { AreClauses self.now }
         ensures trail { IsTrail self.now.trail }
     {
-        self.clauses.get(at)
+        self.known.clause(at)
     }
 
     /// The literals on the trail in order. It takes no memory.
@@ -97,7 +97,7 @@ impl Search {
         ensures lits { result.now ≡ self.now.trail.lits }
         ensures trail { IsTrail self.now.trail }
     {
-        self.trail.lits()
+        self.known.trail()
     }
 
     /// The places on the trail at which the levels 1, 2, .. begin. It takes no memory.
@@ -105,7 +105,7 @@ impl Search {
         ensures levels { result.now ≡ self.now.trail.levels }
         ensures trail { IsTrail self.now.trail }
     {
-        self.trail.levels()
+        self.known.levels()
     }
 
     /// Whether a literal is true by the ranges and the trail. It takes no memory.
@@ -113,7 +113,7 @@ impl Search {
         requires { Exists (length self.now.trail.ranges) self.now.trail.rows lit.now.term }
         ensures { IsTrue result ↔ IsIn (box self.now.trail) lit.now }
     {
-        self.trail.is_true(lit)
+        self.known.is_true(lit)
     }
 
     /// Whether a literal is false by the ranges and the trail. It takes no memory.
@@ -121,7 +121,7 @@ impl Search {
         requires { Exists (length self.now.trail.ranges) self.now.trail.rows lit.now.term }
         ensures { IsTrue result ↔ IsFalseIn (box self.now.trail) lit.now }
     {
-        self.trail.is_false(lit)
+        self.known.is_false(lit)
     }
 
     /// Opens a level that begins with a literal, which is neither true nor false, and counts a decision;
@@ -130,68 +130,48 @@ impl Search {
         requires term { Exists (length self.old.trail.ranges) self.old.trail.rows lit.now.term }
         requires inner { IsInner lit.now.bound }
         requires open { IsOpen (box self.old.trail) lit.now }
-        ensures { IfOk result (λ decided. Decides decided lit.now self.old self.new tally.old tally.new) }
+        ensures { IfOk result (λ decided. Decides decided lit.now self.old self.new tally.old
+            tally.new) }
     {
-        if !tally.tick(Work::Decision) {
-            return Ok(false);
-        }
-        self.trail.open_level()?;
-        self.reasons.push(None)?;
-        if self.trail.push(lit).is_err() {
-            self.reasons.truncate(self.trail.lits().len());
-            return Err(NoMemory);
-        }
-        Ok(true)
+        self.watches.decide(&mut self.known, lit, tally)
+    }
+
+    /// Puts literals that clauses imply, one unit for each, until every clause has a true literal or two that aren't false,
+    /// a clause is false, or the budget is spent where some clause still implies a literal.
+    pub fn propagate(&mut self, tally: &mut Tally) -> Result<Spread, NoMemory>
+        ensures propagated { IfOk result (λ _. Propagated self.old self.new tally.old tally.new) }
+        ensures says { IfOk result (λ spread. Says spread self.new tally.new) }
+    {
+        self.watches.propagate(&mut self.known, tally)
+    }
+
+    /// Learns from a false clause, and counts a conflict; or answers `Spent` and counts nothing, exactly where the tally is at its budget.
+    /// At the end of each level below the present one every clause had a true literal or two that weren't false.
+    ///
+    /// Above level 0 it learns a clause, by going back to the first literal that alone leads to the conflict on its level
+    /// (J. P. Marques-Silva and K. A. Sakallah, GRASP: a search algorithm for propositional satisfiability, 1999).
+    pub fn analyse(
+        &self,
+        alloc: Global,
+        conflict: u32,
+        tally: &mut Tally,
+    ) -> Result<Learnt, NoMemory>
+        requires conflict { IsConflict self.now conflict }
+        requires was_quiet { WasQuiet self.now }
+        ensures { IfOk result (λ learnt. Teaches learnt self.now tally.old tally.new) }
+    {
+        self.known.analyse(alloc, conflict, tally)
     }
 
     /// Gives up all levels above one, and their literals. It takes no memory.
     pub fn back_to(&mut self, level: u32)
         requires { level ≤ length self.old.trail.levels }
         ensures store { self.new.store ≡ self.old.store }
-        ensures trail { self.new.trail ≡ record self.old.trail
-            { lits = take (level_end self.old.trail level) self.old.trail.lits; levels = take level self.old.trail.levels } }
+        ensures trail { self.new.trail ≡ record self.old.trail {
+          lits = take (level_end self.old.trail level) self.old.trail.lits;
+          levels = take level self.old.trail.levels;
+        } }
     {
-        self.trail.back_to(level);
-        self.reasons.truncate(self.trail.lits().len());
-    }
-
-    /// Puts a literal that a clause implies. Where memory is wanting the search stands as before.
-    pub(crate) fn imply(&mut self, lit: &Lit, reason: u32) -> Result<(), NoMemory>
-        requires reason { IsReason
-            (record self.old { trail = record self.old.trail { lits = self.old.trail.lits ++ lit.now ∷ [] } }) (length self.old.trail.lits) (Some reason) }
-        requires term { Exists (length self.old.trail.ranges) self.old.trail.rows lit.now.term }
-        requires inner { IsInner lit.now.bound }
-        requires open { IsOpen (box self.old.trail) lit.now }
-        ensures ok { OnOk result (self.new ≡ record self.old { trail = record self.old.trail { lits = self.old.trail.lits ++ lit.now ∷ [] } }) }
-        ensures err { OnErr result (self.new ≡ self.old) }
-    {
-        let count = self.reasons.len();
-        self.reasons.push(Some(reason))?;
-        if self.trail.push(lit).is_err() {
-            self.reasons.truncate(count);
-            return Err(NoMemory);
-        }
-        Ok(())
-    }
-
-    /// The clause that implied the literal at a place, and nothing where it was decided.
-    pub(crate) fn reason(&self, at: u32) -> Option<u32>
-        requires { at < length self.now.trail.lits }
-        ensures { IsReason self.now at result }
-    {
-        self.reasons[at as usize]
-    }
-
-    /// The trail.
-    pub(crate) fn bounds(&self) -> &BoundTrail
-        ensures trail { result.now ≡ self.now.trail }
-        ensures sound { IsTrail self.now.trail }
-    {
-        let trail = &self.trail;
-        let _lits = trail.lits();
-        trail
+        self.watches.back_to(&mut self.known, level);
     }
 }
-
-// The number of clauses stays below 2^31.
-const MOST_CLAUSES: usize = (1 << 31) - 1;

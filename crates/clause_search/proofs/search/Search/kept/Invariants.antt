@@ -1,5 +1,0 @@
-use Rattle.clause_search.specs.Runs.{AreKept}
-use Rattle.clause_search.proofs.search.Search.kept.Given as goal
-
-abbrev pub invariant-loop-at : goal.invariant-loop-at
-invariant-loop-at l = AreKept l.self.trail l.marks.items l.at l.kept
