@@ -4,6 +4,7 @@
 
 mod run;
 mod shown;
+mod solve;
 mod steps;
 mod system;
 

@@ -4,6 +4,7 @@ ghost use Rattle.std.specs.Prelude.{IfOk, OnOk};
 ghost use Rattle.search_rows.specs.Run.{IsKnown};
 
 use crate::shown::{no_call, state_text};
+use crate::solve::solve;
 use crate::steps::{add, ask, back_to, decide, learn, propagate, raise};
 use clause_search::Search;
 use mix_system::{System, Tally};
@@ -67,6 +68,7 @@ fn step(alloc: Global, run: &mut Run, call: &str) -> Result<String, NoMemory>
         "back" => back_to(alloc, run, of),
         "add" => add(alloc, run, of),
         "learn" => learn(alloc, run),
+        "solve" => solve(alloc, run),
         "budget" => raise(alloc, run, of),
         "all" => state_text(alloc, run),
         _ => no_call(alloc),

@@ -21,10 +21,19 @@ pub fn propagate(alloc: Global, run: &mut Run) -> Result<String, NoMemory>
     requires { IsKnown run.old }
     ensures { OnOk result (IsKnown run.new) }
 {
+    let spread = spread(run)?;
+    Ok(format!(in alloc; "{spread:?}")?)
+}
+
+/// Propagates, and keeps what was found.
+pub fn spread(run: &mut Run) -> Result<Spread, NoMemory>
+    requires { IsKnown run.old }
+    ensures { OnOk result (IsKnown run.new) }
+{
     let _levels = run.search.levels();
     let spread = run.search.propagate(&mut run.tally)?;
     run.standing = standing_after(spread);
-    Ok(format!(in alloc; "{spread:?}")?)
+    Ok(spread)
 }
 
 fn standing_after(spread: Spread) -> Standing
@@ -42,27 +51,39 @@ pub fn decide(alloc: Global, run: &mut Run, of: &str) -> Result<String, NoMemory
     requires { IsKnown run.old }
     ensures { OnOk result (IsKnown run.new) }
 {
-    let Standing::Settled = run.standing else {
-        return no_call(alloc);
-    };
     let Some(lit) = lit_of(of) else {
         return no_call(alloc);
     };
-    if !has_place(run, &lit) {
-        return no_call(alloc);
+    match put(run, &lit)? {
+        None => no_call(alloc),
+        Some(false) => said(alloc, "Spent"),
+        Some(true) => said(alloc, "decided"),
     }
-    if run.search.is_true(&lit) {
-        return no_call(alloc);
+}
+
+/// Decides a literal, and tells whether there was budget; or tells nothing where it may not be decided.
+pub fn put(run: &mut Run, lit: &Lit) -> Result<Option<bool>, NoMemory>
+    requires { IsKnown run.old }
+    ensures { OnOk result (IsKnown run.new) }
+{
+    let Standing::Settled = run.standing else {
+        return Ok(None);
+    };
+    if !has_place(run, lit) {
+        return Ok(None);
     }
-    if run.search.is_false(&lit) {
-        return no_call(alloc);
+    if run.search.is_true(lit) {
+        return Ok(None);
+    }
+    if run.search.is_false(lit) {
+        return Ok(None);
     }
     let _levels = run.search.levels();
-    if !run.search.decide(&lit, &mut run.tally)? {
-        return said(alloc, "Spent");
+    if !run.search.decide(lit, &mut run.tally)? {
+        return Ok(Some(false));
     }
     run.standing = Standing::Open;
-    said(alloc, "decided")
+    Ok(Some(true))
 }
 
 /// `ask:LITERAL`: whether it is true or false.
@@ -85,7 +106,7 @@ pub fn ask(alloc: Global, run: &Run, of: &str) -> Result<String, NoMemory>
 }
 
 // Whether a literal may be put to the trail.
-fn has_place(run: &Run, lit: &Lit) -> bool
+pub fn has_place(run: &Run, lit: &Lit) -> bool
     requires { IsKnown run.now }
     ensures { IsTrue result →
         Exists (length run.now.search.trail.ranges) run.now.search.trail.rows lit.now.term
@@ -146,13 +167,13 @@ pub fn learn(alloc: Global, run: &mut Run) -> Result<String, NoMemory>
         return no_call(alloc);
     };
     match run.search.analyse(alloc, at, &mut run.tally)? {
-        Learnt::Clause { lits, hints, level } => take(alloc, run, &lits, &hints, level),
+        Learnt::Clause { lits, hints, level } => taken(alloc, run, &lits, &hints, level),
         Learnt::Top { hints } => Ok(format!(in alloc; "top by {:?}", hints.items())?),
         Learnt::Spent => said(alloc, "Spent"),
     }
 }
 
-fn take(
+fn taken(
     alloc: Global,
     run: &mut Run,
     lits: &Lits,
@@ -163,12 +184,23 @@ fn take(
     requires learnt { IsLearnt run.old.search lits.now hints.now level }
     ensures { OnOk result (IsKnown run.new) }
 {
+    let number = take(run, lits, hints, level)?;
+    let text = lits_text(alloc, lits.items())?;
+    Ok(format!(in alloc; "clause {number}{text} by {:?} on {level}", hints.items())?)
+}
+
+/// Goes back with what was learnt, and adds it.
+pub fn take(run: &mut Run, lits: &Lits, hints: &Hints, level: u32) -> Result<u32, NoMemory>
+    requires known { IsKnown run.old }
+    requires learnt { IsLearnt run.old.search lits.now hints.now level }
+    ensures { OnOk result (IsKnown run.new) }
+{
     let _levels = run.search.levels();
     run.search.back_to(level);
     let number = run.search.add_clause(lits.items())?;
     run.standing = Standing::Open;
-    let text = lits_text(alloc, lits.items())?;
-    Ok(format!(in alloc; "clause {number}{text} by {:?} on {level}", hints.items())?)
+    let _hints = hints;
+    Ok(number)
 }
 
 /// `budget:BUDGET`: the tally goes on with a greater budget.

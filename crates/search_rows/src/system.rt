@@ -8,7 +8,7 @@ use std::alloc::Global;
 use wx_base::NoMemory;
 
 // A system of rows has few of everything.
-const MOST: u32 = 1000;
+const MOST: u32 = 1_000_000;
 
 /// Adds a variable for each word `LOW:HIGH`, and a row without a part for each word `row`.
 pub fn add_terms(system: &mut System, words: &str) -> Result<(), NoMemory> {

@@ -1,6 +1,6 @@
 use Rattle.std.proofs.Common.{refl}
 use Rattle.search_rows.proofs.RunLaws.{known_propagated}
-use Rattle.search_rows.proofs.steps.propagate.Goals as goal
+use Rattle.search_rows.proofs.steps.spread.Goals as goal
 
 pub returns : goal.returns
 returns c =
