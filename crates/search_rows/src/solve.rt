@@ -1,13 +1,14 @@
 //! A whole search by one call of a script.
 
 ghost use Rattle.std.specs.Prelude.{OnOk};
+ghost use Rattle.clause_search.specs.Learnt.{IsLearnt};
 ghost use Rattle.search_rows.specs.Run.{IsKnown};
 
 use crate::run::{Run, Standing};
 use crate::shown::said;
 use crate::steps::{has_place, put, spread, take};
 use clause_search::{Learnt, Spread};
-use mix_system::{Lit, Side, Term};
+use mix_system::{Hints, Lit, Lits, Side, Term};
 use std::alloc::Global;
 use wx_base::NoMemory;
 
@@ -60,13 +61,19 @@ fn learn_back(alloc: Global, run: &mut Run) -> Result<Option<End>, NoMemory>
         return Ok(None);
     };
     match run.search.analyse(alloc, at, &mut run.tally)? {
-        Learnt::Clause { lits, hints, level } => {
-            take(run, &lits, &hints, level)?;
-            Ok(None)
-        }
+        Learnt::Clause { lits, hints, level } => go_back(run, &lits, &hints, level),
         Learnt::Top { hints: _ } => Ok(Some(End::Impossible)),
         Learnt::Spent => Ok(Some(End::Spent)),
     }
+}
+
+fn go_back(run: &mut Run, lits: &Lits, hints: &Hints, level: u32) -> Result<Option<End>, NoMemory>
+    requires known { IsKnown run.old }
+    requires learnt { IsLearnt run.old.search lits.now hints.now level }
+    ensures { OnOk result (IsKnown run.new) }
+{
+    take(run, lits, hints, level)?;
+    Ok(None)
 }
 
 fn decide_next(run: &mut Run) -> Result<Option<End>, NoMemory>

@@ -190,15 +190,16 @@ fn taken(
 }
 
 /// Goes back with what was learnt, and adds it.
-pub fn take(run: &mut Run, lits: &Lits, _hints: &Hints, level: u32) -> Result<u32, NoMemory>
+pub fn take(run: &mut Run, lits: &Lits, hints: &Hints, level: u32) -> Result<u32, NoMemory>
     requires known { IsKnown run.old }
-    requires learnt { IsLearnt run.old.search lits.now _hints.now level }
+    requires learnt { IsLearnt run.old.search lits.now hints.now level }
     ensures { OnOk result (IsKnown run.new) }
 {
     let _levels = run.search.levels();
     run.search.back_to(level);
     let number = run.search.add_clause(lits.items())?;
     run.standing = Standing::Open;
+    let _hints = hints;
     Ok(number)
 }
 
