@@ -19,10 +19,11 @@ use Rattle.proof_term.specs.declared.proof.Goal.TheVariants.{Below}
 use Rattle.proof_term.specs.declared.step.Step.{Step}
 use Rattle.proof_term.specs.declared.step.Step.TheVariants.{Lemma, Theory, Enter, Leave}
 use Rattle.proof_term.specs.Levels.{Finished, Level, cuts_of, available, goal_bounds, cut_clause}
-use Rattle.proof_term.specs.Valid.{Stage, with_step, closed, after, has_ended, MayStand}
+use Rattle.proof_term.specs.Steps.{StaysWithin}
+use Rattle.proof_term.specs.Valid.{Stage, is_empty, with_step, closed, after, has_ended, MayStand}
 use Rattle.proof_term.specs.Laws.{Meets}
 use Rattle.proof_term.specs.Partial.{local_clauses, locally, Run, run_start, run_after, run_to, StandsLocally, IsInside, AllStand, IsPart, LevelsStand, PartsStand}
-use Rattle.proof_term.specs.PartialLaws.{run_opened, run_on, run_of, steps_with, levels_with}
+use Rattle.proof_term.specs.PartialLaws.{run_opened, run_on, run_of, steps_with, levels_with, closed_steps}
 use Rattle.proof_term.proofs.ValidLaws.{Holds, IsSound, AreSound, level_meets, available_hold, passed_sound, start_sound}
 
 All_reverse : {X : Type 0} (P : X → Type 0) (xs : List X) → All P xs → All P (reverse xs)
@@ -215,3 +216,125 @@ module _ (system : System) (cost : Term) (portions : List Term) (finds : ℕ) wh
   parts_more pending step [] stand more is goes_on = absurd stand
   parts_more pending step (first ∷ levels) stand more is goes_on =
       (stand.0, levels_more pending step levels 0 (run_start system first.goal) first.steps stand.1 more (omega (arith, is)) goes_on)
+
+-- a level that is closed
+
+-- the goal of the level behind so many of the last
+abbrev GoalAt : ℕ → Goal → Level → List Level → Type 0
+GoalAt zero goal last enclosing = last.goal ≡ goal
+GoalAt (suc n) goal last [] = ⊥
+GoalAt (suc n) goal last (outer ∷ enclosing) = GoalAt n goal outer enclosing
+
+goal_after : (goal : Goal) (number : ℕ) (clause : List Lit) (is_cut : Bool) (n : ℕ) (level : Level) (enclosing : List Level) → GoalAt n goal level enclosing → GoalAt n goal (with_step number clause is_cut level) enclosing
+goal_after goal number clause is_cut zero level enclosing is = is
+goal_after goal number clause is_cut (suc n) level [] is = is
+goal_after goal number clause is_cut (suc n) level (outer ∷ enclosing) is = is
+
+goal_closed : (goal : Goal) (next : ℕ) (last : Level) (enclosing : List Level) (base n : ℕ) → length enclosing ≡ n + base → base < length enclosing → GoalAt n goal last enclosing
+    → (m : ℕ) × (length (closed next last enclosing).levels.enclosing ≡ m + base) × GoalAt m goal (closed next last enclosing).levels.last (closed next last enclosing).levels.enclosing
+goal_closed goal next last [] base n is less at = absurd (omega (arith, less))
+goal_closed goal next last (outer ∷ enclosing) base zero is less at = absurd (omega (arith, is, less))
+goal_closed goal next last (outer ∷ enclosing) base (suc n) is less at = (n, omega (arith, is), goal_after goal next (cut_clause last.goal) true n outer enclosing at)
+
+closes_to_base : (next : ℕ) (last : Level) (enclosing : List Level) (base : ℕ) → length enclosing ≡ suc base → length (closed next last enclosing).levels.enclosing ≡ base
+closes_to_base next last [] base is = absurd (omega (arith, is))
+closes_to_base next last (outer ∷ enclosing) base is = omega (arith, is)
+
+closes_going_on : (term : Term) (bound : ℤ) (next : ℕ) (last : Level) (enclosing : List Level) (base : ℕ) → length enclosing ≡ suc base → last.goal ≡ Below term bound → has_ended (closed next last enclosing) ≡ false
+closes_going_on term bound next last [] base is goal_is = absurd (omega (arith, is))
+closes_going_on term bound next last (outer ∷ enclosing) base is goal_is = ap (λ (g : Goal). is_empty (cut_clause g)) goal_is
+
+module _ (system : System) (cost : Term) (portions : List Term) (finds : ℕ) where
+  goal_kept : (goal : Goal) (base : ℕ) (steps : List Step) (run : Run) (n : ℕ) → length run.at.levels.enclosing ≡ n + base → AllStand system cost portions finds base run steps
+      → GoalAt n goal run.at.levels.last run.at.levels.enclosing → length (run_to run steps).at.levels.enclosing ≡ base → (run_to run steps).at.levels.last.goal ≡ goal
+  goal_kept goal base [] run zero is stand at ends = at
+  goal_kept goal base [] run (suc n) is stand at ends = absurd (omega (arith, is, ends))
+  goal_kept goal base (Lemma clause hints ∷ steps) run n is stand at ends =
+      goal_kept goal base steps (run_after run (Lemma clause hints)) n is stand.2 (goal_after goal run.at.next clause false n run.at.levels.last run.at.levels.enclosing at) ends
+  goal_kept goal base (Theory clause tree ∷ steps) run n is stand at ends =
+      goal_kept goal base steps (run_after run (Theory clause tree)) n is stand.2 (goal_after goal run.at.next clause false n run.at.levels.last run.at.levels.enclosing at) ends
+  goal_kept goal base (Enter term bound ∷ steps) run n is stand at ends =
+      let more : suc (length run.at.levels.enclosing) ≡ suc n + base = omega (arith, is) in
+      goal_kept goal base steps (run_after run (Enter term bound)) (suc n) more stand.2 at ends
+  goal_kept goal base (Leave ∷ steps) run n is stand at ends =
+      let behind = goal_closed goal run.at.next run.at.levels.last run.at.levels.enclosing base n is stand.1 at in
+      goal_kept goal base steps (run_after run Leave) behind.0 behind.1 stand.2 behind.2 ends
+
+  inside_less : (base : ℕ) (at : Stage) (step : Step) → IsInside (suc base) at step → IsInside base at step
+  inside_less base at (Lemma clause hints) inside = tt
+  inside_less base at (Theory clause tree) inside = tt
+  inside_less base at (Enter term bound) inside = tt
+  inside_less base at Leave inside = omega (arith, inside)
+
+  stand_less : (base : ℕ) (steps : List Step) (run : Run) → AllStand system cost portions finds (suc base) run steps → AllStand system cost portions finds base run steps
+  stand_less base [] run stand = tt
+  stand_less base (step ∷ steps) run stand = (stand.0, inside_less base run.at step stand.1, stand_less base steps (run_after run step) stand.2)
+
+  stand_both : (base : ℕ) (steps more : List Step) (run : Run) → AllStand system cost portions finds base run steps → AllStand system cost portions finds base (run_to run steps) more
+      → AllStand system cost portions finds base run (steps ++ more)
+  stand_both base [] more run stand behind = behind
+  stand_both base (step ∷ steps) more run stand behind = (stand.0, stand.1, stand_both base steps more (run_after run step) stand.2 behind)
+
+  run_both : (steps more : List Step) (run : Run) → run_to run (steps ++ more) ≡ run_to (run_to run steps) more
+  run_both [] more run = refl
+  run_both (step ∷ steps) more run = run_both steps more (run_after run step)
+
+  module _ (base : ℕ) (run : Run) (outer inner : List Step) (term : Term) (bound : ℤ) (last : Step)
+      (part : IsPart system cost portions finds base run outer) (opens : StandsLocally system cost portions finds (run_to run outer) (Enter term bound)) where
+    abbrev begun : Run
+    begun = run_after (run_to run outer) (Enter term bound)
+
+    abbrev worked : Run
+    worked = run_to begun inner
+
+    module _ (within : IsPart system cost portions finds (suc base) begun inner) (stands : StandsLocally system cost portions finds worked last)
+        (count : length (after worked.at last).levels.enclosing ≡ suc base) (ended : has_ended (after worked.at last) ≡ true) where
+      last_at : (run_after worked last).at ≡ after worked.at last
+      last_at = run_at_after system cost portions finds worked last
+
+      last_count : length (run_after worked last).at.levels.enclosing ≡ suc base
+      last_count = ap (λ (at : Stage). length at.levels.enclosing) last_at ∙ count
+
+      last_ended : has_ended (run_after worked last).at ≡ true
+      last_ended = ap has_ended last_at ∙ ended
+
+      last_inside : IsInside (suc base) worked.at last
+      last_inside = inside_by system cost portions finds worked.at last (suc base) stands.place count
+
+      leaves : StandsLocally system cost portions finds (run_after worked last) Leave
+      leaves = record {
+        place = (last_ended, omega (arith, last_count));
+        passes = record { names = tt; numbers = All-nil StaysWithin; shows = tt };
+        wanted = tt;
+      }
+
+      level_goal : (run_after worked last).at.levels.last.goal ≡ Below term bound
+      level_goal =
+          let first : length begun.at.levels.enclosing ≡ 0 + suc base = omega (arith, ap suc part.closed) in
+          let behind : length worked.at.levels.enclosing ≡ 0 + suc base = omega (arith, within.closed) in
+          let here = goal_kept (Below term bound) (suc base) inner begun 0 first within.stand refl within.closed in
+          goal_kept (Below term bound) (suc base) (last ∷ []) worked 0 behind (stands, last_inside, tt) here last_count
+
+      all_stand : AllStand system cost portions finds base run (closed_steps outer term bound inner last)
+      all_stand =
+          stand_both base outer (Enter term bound ∷ (inner ++ (last ∷ Leave ∷ []))) run part.stand (
+            opens,
+            tt,
+            stand_both base inner (last ∷ Leave ∷ []) begun (stand_less base inner begun within.stand)
+                (stands, inside_less base worked.at last last_inside, (leaves, omega (arith, last_count), tt)),
+          )
+
+      run_is : run_to run (closed_steps outer term bound inner last) ≡ run_after (run_after worked last) Leave
+      run_is = run_both outer (Enter term bound ∷ (inner ++ (last ∷ Leave ∷ []))) run ∙ run_both inner (last ∷ Leave ∷ []) begun
+
+      pub closed_part : IsPart system cost portions finds base run (closed_steps outer term bound inner last)
+      closed_part =
+          let at = (run_after worked last).at in
+          record {
+            stand = all_stand;
+            closed = ap (λ (r : Run). length r.at.levels.enclosing) run_is ∙ closes_to_base at.next at.levels.last at.levels.enclosing base last_count;
+            goes_on = ap (λ (r : Run). has_ended r.at) run_is ∙ closes_going_on term bound at.next at.levels.last at.levels.enclosing base last_count level_goal;
+          }
+
+pub goal_is_below : (term other : Term) (bound bound' : ℤ) → Below term bound ≡ Below other bound' → (term ≡ other) × (bound ≡ bound')
+goal_is_below term other bound bound' is = (cc is, cc is)

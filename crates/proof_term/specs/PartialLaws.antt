@@ -1,16 +1,17 @@
 -- What is said of proofs that aren't finished.
-use Rattle.std.specs.Prelude.{◌≡◌, suc, ℤ, ◌≤ℤ◌, List, [], ◌∷◌, ◌++◌, length, Contains, Any, false}
+use Rattle.std.specs.Prelude.{◌≡◌, suc, ℤ, ◌≤ℤ◌, List, [], ◌∷◌, ◌++◌, length, Contains, Any, true, false}
 use Rattle.mix_system.specs.declared.literal.Term.{Term}
 use Rattle.mix_system.specs.System.{System}
 use Rattle.mix_system.specs.Fits.{Fits, term_value}
 use Rattle.proof_term.specs.declared.find.Find.{Find}
 use Rattle.proof_term.specs.declared.open_tree.OpenNode.TheVariants.{Pending}
+use Rattle.proof_term.specs.declared.open_tree.OpenTree.{OpenTree}
 use Rattle.proof_term.specs.declared.partial.PartLevel.{PartLevel}
 use Rattle.proof_term.specs.declared.partial.Partial.{Partial}
 use Rattle.proof_term.specs.declared.proof.Goal.{Goal}
 use Rattle.proof_term.specs.declared.proof.Goal.TheVariants.{Nothing, AtMost, Below}
 use Rattle.proof_term.specs.declared.step.Step.{Step}
-use Rattle.proof_term.specs.declared.step.Step.TheVariants.{Enter}
+use Rattle.proof_term.specs.declared.step.Step.TheVariants.{Enter, Leave}
 use Rattle.proof_term.specs.Valid.{IsOutermost, has_ended, after}
 use Rattle.proof_term.specs.Partial.{Run, run_start, run_to, run_after, StandsLocally, PartialValid}
 
@@ -62,3 +63,19 @@ OneMoreStepIsValid = (system : System) (cost : Term) (portions : List Term) (par
     PartialValid system cost portions partial finds → StandsLocally system cost portions (length finds) (run_of system partial.levels) step →
     suc (length (after (run_of system partial.levels).at step).levels.enclosing) ≡ length partial.levels → has_ended (after (run_of system partial.levels).at step) ≡ false →
     PartialValid system cost portions (with_step_more partial step) finds
+
+-- the steps of a level behind which a cut was closed: what opens its level, the inner steps, the empty clause, and its end
+abbrev pub closed_steps : List Step → Term → ℤ → List Step → Step → List Step
+closed_steps outer term bound inner last = outer ++ (Enter term bound ∷ (inner ++ (last ∷ Leave ∷ [])))
+
+-- two open levels, and the first alone after the second was closed
+abbrev pub two_levels : Goal → List Step → Term → ℤ → List Step → List PartLevel
+two_levels goal outer term bound inner = (record { goal = goal; steps = outer }) ∷ (record { goal = Below term bound; steps = inner }) ∷ []
+
+-- Where a step that stands behind those of a cut's level ends it with the empty clause, the cut stands behind the steps of the first level.
+abbrev pub ClosedLevelIsValid : Type 0
+ClosedLevelIsValid = (system : System) (cost : Term) (portions : List Term) (goal : Goal) (outer inner : List Step) (term : Term) (bound : ℤ) (pending : OpenTree) (last : Step) (finds : List Find) →
+    PartialValid system cost portions (record { levels = two_levels goal outer term bound inner; pending = pending }) finds →
+    StandsLocally system cost portions (length finds) (run_of system (two_levels goal outer term bound inner)) last →
+    length (after (run_of system (two_levels goal outer term bound inner)).at last).levels.enclosing ≡ 1 → has_ended (after (run_of system (two_levels goal outer term bound inner)).at last) ≡ true →
+    PartialValid system cost portions (record { levels = record { goal = goal; steps = closed_steps outer term bound inner last } ∷ []; pending = record { nodes = Pending ∷ [] } }) finds

@@ -11,8 +11,8 @@ mod tree;
 
 pub use find::{Find, Finds};
 pub use laws::{
-    cuts_are_bounds, nothing_is_valid, one_more_step_is_valid, partial_cuts_are_bounds,
-    refuted_boxes_are_empty, valid_proofs_bound, valid_proofs_stay_valid,
+    closed_level_is_valid, cuts_are_bounds, nothing_is_valid, one_more_step_is_valid,
+    partial_cuts_are_bounds, refuted_boxes_are_empty, valid_proofs_bound, valid_proofs_stay_valid,
 };
 pub use open_tree::{OpenNode, OpenNodes, OpenTree};
 pub use partial::{PartLevel, PartLevels, Partial};
