@@ -10,7 +10,8 @@ use wx_num::Excess;
 /// What a combination of literals comes to.
 #[derive(Clone, Copy, Debug, PartialEq, Eq)]
 pub enum Combined {
-    /// All variables cancel out, and the bounds add up to less than 0: it refutes every box that has its literals.
+    /// All variables cancel out, and the bounds add up to less than 0: it refutes every box that
+    /// has its literals.
     Refutes,
     /// Some variable doesn't cancel out.
     NotZero,
@@ -21,12 +22,14 @@ pub enum Combined {
 }
 
 impl Sums {
-    /// Works a combination, whose terms are the system's, from left to right. The sums are those of the system's variables.
+    /// Works a combination, whose terms are the system's, from left to right. The sums are those of
+    /// the system's variables.
     ///
     /// It takes no memory, and time in the parts that are named alone.
     pub fn combine(&mut self, system: &System, parts: &[FarkasPart]) -> Combined
         requires clear { IsClear (length system.now.ranges) self.old }
-        requires terms { All (λ part. Exists (length system.now.ranges) (length system.now.rows) part.lit.term) parts.now }
+        requires terms { All (λ part. Exists (length system.now.ranges) (length system.now.rows)
+            part.lit.term) parts.now }
         ensures exact { IsCombined system.now.rows parts.now result }
         ensures clear { IsClear (length system.now.ranges) self.new }
     {

@@ -10,7 +10,8 @@ use wx_num::{Excess, Num};
 fn put_to(side: Side, sum: i128, product: i128) -> Result<i128, Excess>
     ensures value { IfOk result (λ new. new ≡ sum +ℤ by_side side product) }
     ensures within { IsOk result ↔ StaysWithin (record { op = sum_op side; x = sum; y = product }) }
-    ensures excess { IfErr result (λ excess. excess ≡ record { op = sum_op side; x = sum; y = product }) }
+    ensures excess { IfErr result (λ excess. excess ≡
+        record { op = sum_op side; x = sum; y = product }) }
 {
     match side {
         Side::Le => Num::add(sum, product),

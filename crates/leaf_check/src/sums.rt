@@ -28,15 +28,23 @@ impl Sums {
         Ok(Sums { numbers })
     }
 
-    // Adds all literals, so many times each, and gives the sum of their bounds, or the first step that would overflow.
+    // Adds all literals, so many times each, and gives the sum of their bounds, or the first step
+    // that would overflow.
     pub(crate) fn add_all(&mut self, system: &System, parts: &[FarkasPart]) -> Result<i128, Excess>
         requires variables { length self.old.numbers.items ≡ length system.now.ranges }
-        requires terms { All (λ part. Exists (length system.now.ranges) (length system.now.rows) part.lit.term) parts.now }
-        ensures sums { IfOk result (λ _. AddsAll system.now.rows parts.now self.old.numbers.items self.new.numbers.items) }
+        requires terms { All (λ part. Exists (length system.now.ranges) (length system.now.rows)
+            part.lit.term) parts.now }
+        ensures sums { IfOk result (λ _. AddsAll system.now.rows parts.now self.old.numbers.items
+            self.new.numbers.items) }
         ensures constant { IfOk result (λ constant. constant ≡ int_sum_by bound_weight parts.now) }
-        ensures stays { IfOk result (λ _. All StaysWithin (leaf_steps_from system.now.rows (number_at self.old.numbers.items) (pos 0) parts.now)) }
-        ensures excess { IfErr result (IsFirstExcess (leaf_steps_from system.now.rows (number_at self.old.numbers.items) (pos 0) parts.now)) }
-        ensures changes { Changes (NamesAny system.now.rows parts.now) self.old.numbers.items self.new.numbers.items }
+        ensures stays { IfOk result (λ _. All StaysWithin
+            (leaf_steps_from system.now.rows (number_at self.old.numbers.items)
+            (pos 0) parts.now)) }
+        ensures excess { IfErr result (IsFirstExcess
+            (leaf_steps_from system.now.rows (number_at self.old.numbers.items)
+            (pos 0) parts.now)) }
+        ensures changes { Changes (NamesAny system.now.rows parts.now) self.old.numbers.items
+            self.new.numbers.items }
     {
         let mut constant = 0;
         for part in parts {
@@ -54,10 +62,17 @@ impl Sums {
     fn add_term(&mut self, system: &System, part: FarkasPart) -> Result<(), Excess>
         requires variables { length self.old.numbers.items ≡ length system.now.ranges }
         requires exists { Exists (length system.now.ranges) (length system.now.rows) part.lit.term }
-        ensures sums { IfOk result (λ _. Adds part.lit.side part.by (parts_of system.now.rows part.lit.term) self.old.numbers.items self.new.numbers.items) }
-        ensures stays { IfOk result (λ _. All StaysWithin (term_steps part.lit.side part.by (number_at self.old.numbers.items) (parts_of system.now.rows part.lit.term))) }
-        ensures excess { IfErr result (IsFirstExcess (term_steps part.lit.side part.by (number_at self.old.numbers.items) (parts_of system.now.rows part.lit.term))) }
-        ensures changes { Changes (Names (parts_of system.now.rows part.lit.term)) self.old.numbers.items self.new.numbers.items }
+        ensures sums { IfOk result (λ _. Adds part.lit.side part.by
+            (parts_of system.now.rows part.lit.term)
+            self.old.numbers.items self.new.numbers.items) }
+        ensures stays { IfOk result (λ _. All StaysWithin
+            (term_steps part.lit.side part.by (number_at self.old.numbers.items)
+            (parts_of system.now.rows part.lit.term))) }
+        ensures excess { IfErr result (IsFirstExcess
+            (term_steps part.lit.side part.by (number_at self.old.numbers.items)
+            (parts_of system.now.rows part.lit.term))) }
+        ensures changes { Changes (Names (parts_of system.now.rows part.lit.term))
+            self.old.numbers.items self.new.numbers.items }
     {
         match part.lit.term {
             Term::Var(var) => self.add_parts(part.lit.side, part.by, &[Part { coeff: 1, var }]),
@@ -67,9 +82,12 @@ impl Sums {
 
     fn add_parts(&mut self, side: Side, by: i128, parts: &[Part]) -> Result<(), Excess>
         requires { All (λ part. part.var < length self.old.numbers.items) parts.now }
-        ensures sums { IfOk result (λ _. Adds side by parts.now self.old.numbers.items self.new.numbers.items) }
-        ensures stays { IfOk result (λ _. All StaysWithin (term_steps side by (number_at self.old.numbers.items) parts.now)) }
-        ensures excess { IfErr result (IsFirstExcess (term_steps side by (number_at self.old.numbers.items) parts.now)) }
+        ensures sums { IfOk result (λ _. Adds side by parts.now self.old.numbers.items
+            self.new.numbers.items) }
+        ensures stays { IfOk result (λ _. All StaysWithin
+            (term_steps side by (number_at self.old.numbers.items) parts.now)) }
+        ensures excess { IfErr result (IsFirstExcess
+            (term_steps side by (number_at self.old.numbers.items) parts.now)) }
         ensures changes { Changes (Names parts.now) self.old.numbers.items self.new.numbers.items }
     {
         for part in parts {
@@ -82,9 +100,13 @@ impl Sums {
 
     fn add_part(&mut self, side: Side, by: i128, part: Part) -> Result<(), Excess>
         requires { part.var < length self.old.numbers.items }
-        ensures ok { OnOk result (self.new.numbers.items ≡ slice_set self.old.numbers.items part.var (number_at self.old.numbers.items part.var +ℤ by_side side (by *ℤ part.coeff))) }
-        ensures stays { IfOk result (λ _. All StaysWithin (product_steps side (number_at self.old.numbers.items part.var) by part.coeff)) }
-        ensures excess { IfErr result (IsFirstExcess (product_steps side (number_at self.old.numbers.items part.var) by part.coeff)) }
+        ensures ok { OnOk result (self.new.numbers.items ≡
+            slice_set self.old.numbers.items part.var
+            (number_at self.old.numbers.items part.var +ℤ by_side side (by *ℤ part.coeff))) }
+        ensures stays { IfOk result (λ _. All StaysWithin
+            (product_steps side (number_at self.old.numbers.items part.var) by part.coeff)) }
+        ensures excess { IfErr result (IsFirstExcess
+            (product_steps side (number_at self.old.numbers.items part.var) by part.coeff)) }
         ensures err { OnErr result (self.new.numbers.items ≡ self.old.numbers.items) }
     {
         let var = part.var as usize;

@@ -157,7 +157,8 @@ impl LevelStack {
     pub fn clause(&self, number: u64) -> Option<&[Lit]>
         ensures { MatchOption result
             (clause_of number (available (levels_of self.now.last self.now.enclosing)) ≡ None)
-            (λ clause. clause_of number (available (levels_of self.now.last self.now.enclosing)) ≡ Some clause.now) }
+            (λ clause. clause_of number
+            (available (levels_of self.now.last self.now.enclosing)) ≡ Some clause.now) }
     {
         let Some(at) = self.steps.place(number) else {
             return None;

@@ -16,10 +16,12 @@ pub struct TextFault {
     pub line: u64,
 }
 
-/// The proof that a text spells, or the first line that may not stand there or has a number out of its range. A last line without a
-/// line feed is such a line, and the text's end is, where the proof goes on behind it.
+/// The proof that a text spells, or the first line that may not stand there or has a number out of
+/// its range. A last line without a line feed is such a line, and the text's end is, where the
+/// proof goes on behind it.
 ///
-/// Whether a system has the terms and clauses that are named isn't asked, nor how many levels are open.
+/// Whether a system has the terms and clauses that are named isn't asked, nor how many levels are
+/// open.
 pub fn parse(alloc: Global, text: &[u8]) -> Result<Result<Proof, TextFault>, NoMemory>
     ensures answer { IfOk result (IsParsed text.now) }
 {
@@ -40,7 +42,8 @@ pub fn parse(alloc: Global, text: &[u8]) -> Result<Result<Proof, TextFault>, NoM
     Ok(ended(draft, number, left))
 }
 
-// What is kept behind one line more, or that it may not stand there or has a number out of its range.
+// What is kept behind one line more, or that it may not stand there or has a number out of its
+// range.
 fn goes_on(alloc: Global, draft: Draft, bytes: &[u8]) -> Result<Option<Draft>, NoMemory>
     ensures { IfOk result (ReadComes draft (said bytes.now)) }
 {
@@ -68,7 +71,8 @@ fn ended(draft: Draft, number: u64, rest: &[u8]) -> Result<Proof, TextFault>
 #[tactic(auto, using(crate::proofs::LineLaws::lines_first))]
 fn first_line(bytes: &[u8]) -> Option<(&[u8], &[u8])>
     ensures { MatchOption result (lines bytes.now ≡ bytes.now ∷ [])
-        (λ parts. (lines bytes.now ≡ parts.0.now ∷ lines parts.1.now) × (length parts.1.now < length bytes.now)) }
+        (λ parts. (lines bytes.now ≡ parts.0.now ∷ lines parts.1.now) ×
+        (length parts.1.now < length bytes.now)) }
 {
     let (line, behind) = bytes.split_at(line_len(bytes));
     match behind {

@@ -15,8 +15,9 @@ use proof_term::{Goal, Node, Proof, Shape, Step};
 use std::alloc::Global;
 use wx_base::NoMemory;
 
-/// The text of a proof. It spells each proof that has the form of one: an outermost goal, each level ended by its first empty clause,
-/// each level of a cut closed, each tree whole, and no leaf without a part.
+/// The text of a proof. It spells each proof that has the form of one: an outermost goal, each
+/// level ended by its first empty clause, each level of a cut closed, each tree whole, and no leaf
+/// without a part.
 pub fn print(alloc: Global, proof: &Proof) -> Result<Vec<u8>, NoMemory>
     ensures text { IfOk result (λ text. text.items ≡ text_of proof.now) }
     ensures spells { IfOk result (λ text. IsComplete proof.now → Spells text.items proof.now) }
@@ -30,7 +31,8 @@ pub fn print(alloc: Global, proof: &Proof) -> Result<Vec<u8>, NoMemory>
 }
 
 fn push_first_lines(text: &mut Vec<u8>, shape: Option<Shape>) -> Result<(), NoMemory>
-    ensures text { OnOk result (text.new.items ≡ text.old.items ++ lines_bytes (first_lines shape)) }
+    ensures text { OnOk result (text.new.items ≡
+        text.old.items ++ lines_bytes (first_lines shape)) }
     ensures fits { OnOk result (All LineFits (first_lines shape)) }
 {
     match shape {
@@ -45,7 +47,8 @@ fn push_first_lines(text: &mut Vec<u8>, shape: Option<Shape>) -> Result<(), NoMe
 }
 
 fn push_goal(text: &mut Vec<u8>, goal: Goal) -> Result<(), NoMemory>
-    ensures text { OnOk result (text.new.items ≡ text.old.items ++ line_bytes (line.Goal (goal_number goal))) }
+    ensures text { OnOk result (text.new.items ≡
+        text.old.items ++ line_bytes (line.Goal (goal_number goal))) }
     ensures fits { OnOk result (LineFits (line.Goal (goal_number goal))) }
 {
     match goal {
@@ -59,7 +62,8 @@ fn push_goal(text: &mut Vec<u8>, goal: Goal) -> Result<(), NoMemory>
 }
 
 fn push_steps(text: &mut Vec<u8>, steps: &[Step]) -> Result<(), NoMemory>
-    ensures text { OnOk result (text.new.items ≡ text.old.items ++ lines_bytes (flat_map step_lines steps.now)) }
+    ensures text { OnOk result (text.new.items ≡
+        text.old.items ++ lines_bytes (flat_map step_lines steps.now)) }
     ensures fits { OnOk result (All LineFits (flat_map step_lines steps.now)) }
 {
     for step in steps {
@@ -69,7 +73,8 @@ fn push_steps(text: &mut Vec<u8>, steps: &[Step]) -> Result<(), NoMemory>
 }
 
 fn push_step(text: &mut Vec<u8>, step: &Step) -> Result<(), NoMemory>
-    ensures text { OnOk result (text.new.items ≡ text.old.items ++ lines_bytes (step_lines step.now)) }
+    ensures text { OnOk result (text.new.items ≡
+        text.old.items ++ lines_bytes (step_lines step.now)) }
     ensures fits { OnOk result (All LineFits (step_lines step.now)) }
 {
     match step {
@@ -84,7 +89,8 @@ fn push_step(text: &mut Vec<u8>, step: &Step) -> Result<(), NoMemory>
 }
 
 fn push_lemma(text: &mut Vec<u8>, clause: &Lits, hints: &Hints) -> Result<(), NoMemory>
-    ensures text { OnOk result (text.new.items ≡ text.old.items ++ line_bytes (line.Lemma clause.now hints.now)) }
+    ensures text { OnOk result (text.new.items ≡
+        text.old.items ++ line_bytes (line.Lemma clause.now hints.now)) }
     ensures fits { OnOk result (LineFits (line.Lemma clause.now hints.now)) }
 {
     push(text, b"lemma")?;
@@ -95,7 +101,8 @@ fn push_lemma(text: &mut Vec<u8>, clause: &Lits, hints: &Hints) -> Result<(), No
 }
 
 fn push_theory(text: &mut Vec<u8>, clause: &Lits) -> Result<(), NoMemory>
-    ensures text { OnOk result (text.new.items ≡ text.old.items ++ line_bytes (line.Theory clause.now)) }
+    ensures text { OnOk result (text.new.items ≡
+        text.old.items ++ line_bytes (line.Theory clause.now)) }
     ensures fits { OnOk result (LineFits (line.Theory clause.now)) }
 {
     push(text, b"theory")?;
@@ -104,7 +111,8 @@ fn push_theory(text: &mut Vec<u8>, clause: &Lits) -> Result<(), NoMemory>
 }
 
 fn push_cut(text: &mut Vec<u8>, term: Term, bound: i128) -> Result<(), NoMemory>
-    ensures text { OnOk result (text.new.items ≡ text.old.items ++ line_bytes (line.Cut term bound)) }
+    ensures text { OnOk result (text.new.items ≡
+        text.old.items ++ line_bytes (line.Cut term bound)) }
     ensures fits { OnOk result (LineFits (line.Cut term bound)) }
 {
     push(text, b"cut")?;
@@ -114,7 +122,8 @@ fn push_cut(text: &mut Vec<u8>, term: Term, bound: i128) -> Result<(), NoMemory>
 }
 
 fn push_nodes(text: &mut Vec<u8>, nodes: &[Node]) -> Result<(), NoMemory>
-    ensures text { OnOk result (text.new.items ≡ text.old.items ++ lines_bytes (map node_line nodes.now)) }
+    ensures text { OnOk result (text.new.items ≡
+        text.old.items ++ lines_bytes (map node_line nodes.now)) }
     ensures fits { OnOk result (All LineFits (map node_line nodes.now)) }
 {
     for node in nodes {
@@ -124,7 +133,8 @@ fn push_nodes(text: &mut Vec<u8>, nodes: &[Node]) -> Result<(), NoMemory>
 }
 
 fn push_node(text: &mut Vec<u8>, node: &Node) -> Result<(), NoMemory>
-    ensures text { OnOk result (text.new.items ≡ text.old.items ++ line_bytes (node_line node.now)) }
+    ensures text { OnOk result (text.new.items ≡
+        text.old.items ++ line_bytes (node_line node.now)) }
     ensures fits { OnOk result (LineFits (node_line node.now)) }
 {
     match node {
@@ -134,7 +144,8 @@ fn push_node(text: &mut Vec<u8>, node: &Node) -> Result<(), NoMemory>
 }
 
 fn push_leaf(text: &mut Vec<u8>, parts: &[FarkasPart]) -> Result<(), NoMemory>
-    ensures text { OnOk result (text.new.items ≡ text.old.items ++ line_bytes (line.Leaf (map multiple_of parts.now))) }
+    ensures text { OnOk result (text.new.items ≡
+        text.old.items ++ line_bytes (line.Leaf (map multiple_of parts.now))) }
     ensures fits { OnOk result (LineFits (line.Leaf (map multiple_of parts.now))) }
 {
     push(text, b"leaf")?;
@@ -143,7 +154,8 @@ fn push_leaf(text: &mut Vec<u8>, parts: &[FarkasPart]) -> Result<(), NoMemory>
 }
 
 fn push_parts(text: &mut Vec<u8>, parts: &[FarkasPart]) -> Result<(), NoMemory>
-    ensures text { OnOk result (text.new.items ≡ text.old.items ++ flat_map spaced_multiple (map multiple_of parts.now)) }
+    ensures text { OnOk result (text.new.items ≡
+        text.old.items ++ flat_map spaced_multiple (map multiple_of parts.now)) }
     ensures fits { OnOk result (All MultipleFits (map multiple_of parts.now)) }
 {
     for part in parts {
@@ -153,7 +165,8 @@ fn push_parts(text: &mut Vec<u8>, parts: &[FarkasPart]) -> Result<(), NoMemory>
 }
 
 fn push_part(text: &mut Vec<u8>, part: FarkasPart) -> Result<(), NoMemory>
-    ensures text { OnOk result (text.new.items ≡ text.old.items ++ spaced_multiple (multiple_of part)) }
+    ensures text { OnOk result (text.new.items ≡
+        text.old.items ++ spaced_multiple (multiple_of part)) }
     ensures fits { OnOk result (MultipleFits (multiple_of part)) }
 {
     push_bound(text, part.by)?;

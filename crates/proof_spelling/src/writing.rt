@@ -97,7 +97,8 @@ pub(crate) fn push_literal(text: &mut Vec<u8>, lit: Lit) -> Result<(), NoMemory>
 }
 
 pub(crate) fn push_literals(text: &mut Vec<u8>, lits: &[Lit]) -> Result<(), NoMemory>
-    ensures text { OnOk result (text.new.items ≡ text.old.items ++ flat_map spaced_literal lits.now) }
+    ensures text { OnOk result (text.new.items ≡
+        text.old.items ++ flat_map spaced_literal lits.now) }
     ensures fits { OnOk result (All LitFits lits.now) }
 {
     for lit in lits {
@@ -107,7 +108,8 @@ pub(crate) fn push_literals(text: &mut Vec<u8>, lits: &[Lit]) -> Result<(), NoMe
 }
 
 pub(crate) fn push_numbers(text: &mut Vec<u8>, numbers: &[u32]) -> Result<(), NoMemory>
-    ensures text { OnOk result (text.new.items ≡ text.old.items ++ flat_map spaced_number numbers.now) }
+    ensures text { OnOk result (text.new.items ≡
+        text.old.items ++ flat_map spaced_number numbers.now) }
     ensures fits { OnOk result (All (λ number. number < 2 ^ 32) numbers.now) }
 {
     for number in numbers {

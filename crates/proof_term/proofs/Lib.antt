@@ -1,4 +1,5 @@
 pub mod ListLaws
+mod PartialLaws
 pub mod RefutesLaws
 pub mod ValidLaws
 mod WeakerLaws

@@ -10,6 +10,7 @@ use Rattle.mix_system.specs.declared.row.Part.{Part}
 use Rattle.mix_system.specs.Lit.{negation}
 use Rattle.mix_system.specs.System.{System}
 use Rattle.mix_system.specs.Fits.{Fits, IsTrueAt, term_value}
+use Rattle.mix_system.specs.Follows.{Known}
 use Rattle.mix_system.specs.Bounds.{AreTrueAt, range_bounds, unit_bounds, only_literal}
 use Rattle.mix_system.proofs.WellFormedLaws.{All-slice_get}
 use Rattle.proof_term.specs.declared.proof.Goal.{Goal}
@@ -83,10 +84,10 @@ module _ (system : System) (cost : Term) (point : List ℤ) where
       Any-none (IsTrueAt system.rows point) (rw (is_empty-true f.clause ended) at here)
 
   -- so the goal of a level that has ended is met
-  level_meets : (level : Level) → IsSound system.rows cost point level → ends_empty level.finished ≡ true → Meets system.rows cost point level.goal
+  pub level_meets : (level : Level) → IsSound system.rows cost point level → ends_empty level.finished ≡ true → Meets system.rows cost point level.goal
   level_meets level sound ended = meets_unless_true level.goal (λ is_true. ended_refutes level.finished ended (sound.own is_true))
 
-  available_hold : (at : Stage) → AreSound system.rows cost point at → AreTrueAt system.rows point (goal_bounds cost at.levels.last.goal) → All (λ f. Holds system.rows point f.clause) (available at.levels)
+  pub available_hold : (at : Stage) → AreSound system.rows cost point at → AreTrueAt system.rows point (goal_bounds cost at.levels.last.goal) → All (λ f. Holds system.rows point f.clause) (available at.levels)
   available_hold at sound is_true =
       let P : Finished → Type 0 = λ f. Holds system.rows point f.clause in
       let Q : Finished → Type 0 = λ f. f.is_cut ≡ true → Holds system.rows point f.clause in
@@ -167,21 +168,28 @@ module _ (system : System) (cost : Term) (point : List ℤ) where
         enclosing = outer.1;
       }
 
-  after_sound : (at : Stage) (step : Step) → Fits system point → AreSound system.rows cost point at → Takes system cost at step → AreSound system.rows cost point (after at step)
-  after_sound at (Lemma clause hints) fits sound takes = after_clause_sound at clause sound (λ is_true.
-      Follows-true system.rows point clause hints (box_of system cost at.levels) (known system at.levels) takes.passes.shows (box_true at fits sound is_true) (known_holds at fits sound is_true))
-  after_sound at (Theory clause tree) fits sound takes = after_clause_sound at clause sound (λ is_true.
+  -- what a step shows that passes, by whatever numbers of clauses that hold
+  pub passed_sound : (at : Stage) (step : Step) (knows : Known) → Fits system point → AreSound system.rows cost point at
+      → (AreTrueAt system.rows point (goal_bounds cost at.levels.last.goal) → (number : ℕ) (clause : List Lit) → knows number ≡ Some clause → Holds system.rows point clause)
+      → MayStand at step → Passes system (box_of system cost at.levels) knows step → AreSound system.rows cost point (after at step)
+  passed_sound at (Lemma clause hints) knows fits sound hold place passes = after_clause_sound at clause sound (λ is_true.
+      Follows-true system.rows point clause hints (box_of system cost at.levels) knows passes.shows (box_true at fits sound is_true) (hold is_true))
+  passed_sound at (Theory clause tree) knows fits sound hold place passes = after_clause_sound at clause sound (λ is_true.
       elim (true_or_all_negated clause) [
         | inl holds ↦ holds
-        | inr negated ↦ absurd ((no_point system.rows point tree.nodes ((map negation clause ++ box_of system cost at.levels) ∷ []) takes.passes.shows).0
+        | inr negated ↦ absurd ((no_point system.rows point tree.nodes ((map negation clause ++ box_of system cost at.levels) ∷ []) passes.shows).0
             (All-append (IsTrueAt system.rows point) (map negation clause) (box_of system cost at.levels) negated (box_true at fits sound is_true)))
       ])
-  after_sound at (Enter term bound) fits sound takes = record {
+  passed_sound at (Enter term bound) knows fits sound hold place passes = record {
     nested = (tt, sound.nested);
     last = record { cuts = All-nil (λ f. f.is_cut ≡ true → Holds system.rows point f.clause); own = λ is_true. All-nil (λ f. Holds system.rows point f.clause) };
     enclosing = (sound.last, sound.enclosing);
   }
-  after_sound at Leave fits sound takes = closed_sound at.next at.levels.last at.levels.enclosing sound.nested sound.last sound.enclosing takes.place.0
+  passed_sound at Leave knows fits sound hold place passes = closed_sound at.next at.levels.last at.levels.enclosing sound.nested sound.last sound.enclosing place.0
+
+  after_sound : (at : Stage) (step : Step) → Fits system point → AreSound system.rows cost point at → Takes system cost at step → AreSound system.rows cost point (after at step)
+  after_sound at step fits sound takes =
+      passed_sound at step (known system at.levels) fits sound (λ is_true. known_holds at fits sound is_true) takes.place takes.passes
 
   -- each open level's goal is met
   abbrev pub AllMeet : Level → List Level → Type 0
