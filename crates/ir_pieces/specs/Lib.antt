@@ -1,0 +1,3 @@
+pub mod Bounded
+pub mod Lists
+pub mod Pieces

@@ -1,0 +1,32 @@
+//! Laws of the definitions that contracts cite. Each is the contract of a function that does nothing.
+
+ghost use Rattle.std.specs.Prelude.{◌≡◌, ◌↔◌, ℕ, ℤ, List, length, map, All, Any};
+ghost use Rattle.mix_system.specs.declared.row.Part.{Part};
+ghost use Rattle.mix_system.specs.Fits.{IsTrueAt};
+ghost use Rattle.wrap_rows.specs.Layout.{clause_from, StandsAt};
+ghost use Rattle.ir_pieces.specs.declared.piece.IrPiece.{IrPiece};
+ghost use Rattle.ir_pieces.specs.declared.list.Placed.{Placed};
+ghost use Rattle.ir_pieces.specs.Pieces.{IsAt, ranges, layout, numbers};
+ghost use Rattle.ir_pieces.specs.Bounded.{IsBounded, edges_of};
+ghost use Rattle.ir_pieces.specs.Lists.{ArePlaced, joined, AreInRanges, AllHold, AllSay, AreSound};
+
+/// A piece lays at most 5 rows and 138 clauses over at most 98 variables of its own, and of a phi a row and four clauses more for each edge.
+/// They name only variables before its end, and it fills in exactly its own.
+pub fn a_piece_is_small()
+    ensures bounded { (piece : IrPiece) (first : ℕ) → IsAt piece first
+        → IsBounded first (edges_of piece) (ranges piece) (layout piece first) }
+    ensures numbers { (piece : IrPiece) (point : List ℤ)
+        → length (numbers piece point) ≡ length (ranges piece) }
+{}
+
+/// Where the rows of all pieces stand in a system, the clauses that are laid there are true at a point exactly where each piece's layout holds.
+/// Where its own variables lie in their ranges too, the number and mark of each are its operation's value.
+pub fn what_pieces_say()
+    ensures laid { (placed : List Placed) (first : ℕ) (rows : List (List Part)) (point : List ℤ)
+        → StandsAt first (joined placed).rows rows
+        → All (Any (IsTrueAt rows point)) (map (clause_from first) (joined placed).clauses)
+        ↔ AllHold placed point }
+    ensures sound { (placed : List Placed) (from to : ℕ) (point : List ℤ)
+        → ArePlaced from to placed → AllSay placed point
+        → AreInRanges placed point → AllHold placed point → AreSound placed point }
+{}

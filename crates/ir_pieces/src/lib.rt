@@ -1,0 +1,12 @@
+//! The pieces of a function's system as one type, and lists of them.
+//!
+//! The definitions stand in `specs/`; the laws are contracts of functions that do nothing.
+#![tactic(auto)]
+
+mod laws;
+mod list;
+mod piece;
+
+pub use laws::{a_piece_is_small, what_pieces_say};
+pub use list::{Placed, fill_all, lay_all, place};
+pub use piece::IrPiece;
