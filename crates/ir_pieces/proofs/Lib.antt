@@ -1,8 +1,10 @@
 pub mod BoundLaws
+pub mod ChoiceLaws
 pub mod FillLaws
 pub mod ListLaws
 pub mod NumberLaws
 pub mod OtherBounds
 pub mod PieceLaws
 pub mod SameLaws
+pub mod StandLaws
 pub mod WrapBounds
