@@ -11,7 +11,7 @@ use Rattle.ir_pieces.specs.Pieces.{IsAt, ranges, layout, CanFill, numbers}
 use Rattle.ir_pieces.specs.Lists.{end_of, ArePlaced, IsFree, AreInRanges, AllHold, AllSay, AreSound, AgreeOutside, AreReady}
 use Rattle.ir_pieces.proofs.PieceLaws.{bounded, numbers_fit, sound, complete}
 use Rattle.ir_pieces.proofs.SameLaws.{put-behind, put-length, in-same, holds-same}
-use Rattle.ir_pieces.proofs.ListLaws.{before_free}
+use Rattle.ir_pieces.proofs.ListLaws.{placed_end, before_free}
 
 -- what all pieces of a list come to where one point was filled in to another
 pub record IsFilled (placed : List Placed) (old new : List ℤ) : Type 0 where
@@ -76,17 +76,13 @@ finds : (Known : List ℤ → Type 0) (from to : ℕ) (placed : List Placed) (po
 finds Known from to [] point are room lasts ready known = tt
 finds Known from to (it ∷ others) point are room lasts ready known =
     let mine = ready.0 point known in
-    let within : end_of it ≤ length point = omega (arith, ends (end_of it) others are.2, room) in
+    let within : end_of it ≤ length point = omega (arith, placed_end (end_of it) to others are.2, room) in
     let in_ranges = (complete it.piece it.first point are.1 mine within).0 in (
       mine,
       finds (λ other. Known other × AreIn it.first (ranges it.piece) other) (end_of it) to others (after it point) are.2
       (omega (arith, room, put-length it.first (numbers it.piece point) point))
       (lasts-in Known it.first (ranges it.piece) (end_of it) to others (omega arith) are.2 lasts.1) ready.1 (lasts.0 point known, in_ranges),
     )
-  where
-    ends : (start : ℕ) (rest : List Placed) → ArePlaced start to rest → start ≤ to
-    ends start [] all = all
-    ends start (one ∷ rest) all = omega (arith, all.0, ends (end_of one) rest all.2)
 
 -- what lies outside the pieces of a list lasts over each of them
 outside-lasts : (all : List Placed) (old : List ℤ) (placed : List Placed) → ((var : ℕ) → IsFree var all → IsFree var placed) → Lasts (λ point. AgreeOutside all old point) placed

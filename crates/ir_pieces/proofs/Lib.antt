@@ -7,4 +7,5 @@ pub mod OtherBounds
 pub mod PieceLaws
 pub mod SameLaws
 pub mod StandLaws
+pub mod TurnLaws
 pub mod WrapBounds

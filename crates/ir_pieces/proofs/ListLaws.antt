@@ -28,6 +28,10 @@ pub placed_from : (from to : ℕ) (placed : List Placed) → ArePlaced from to p
 placed_from from to [] are = omega arith
 placed_from from to (it ∷ others) are = (omega arith, are.1, are.2)
 
+pub placed_end : (from to : ℕ) (placed : List Placed) → ArePlaced from to placed → from ≤ to
+placed_end from to [] are = are
+placed_end from to (it ∷ others) are = omega (arith, are.0, placed_end (end_of it) to others are.2)
+
 -- one more behind the others
 pub placed_more : (from to : ℕ) (placed : List Placed) (it : Placed) → ArePlaced from to placed → IsAt it.piece it.first → it.first ≡ to → ArePlaced from (end_of it) (placed ++ it ∷ [])
 placed_more from to [] it are at is = (omega (arith, are, is), at, omega arith)

@@ -26,7 +26,7 @@ put-behind first (number ∷ numbers) point var behind =
 
 pub put-length : (first : ℕ) (numbers point : List ℤ) → length (put_from first numbers point) ≡ length point
 put-length first [] point = refl
-put-length first (number ∷ numbers) point = put-length (first + 1) numbers (slice_set point first number) ∙ length-set
+put-length first (number ∷ numbers) point = put-length (first + 1) numbers (slice_set point first number) ∙ length-set point first number
 
 pub in-same : (first : ℕ) (ranges : List (ℤ × ℤ)) (point other : List ℤ) → ((var : ℕ) → first ≤ var → var < first + length ranges → number_at other var ≡ number_at point var) → AreIn first ranges point → AreIn first ranges other
 in-same first [] point other same within = tt

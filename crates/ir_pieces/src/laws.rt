@@ -1,12 +1,17 @@
 //! Laws of the definitions that contracts cite. Each is the contract of a function that does nothing.
 
-ghost use Rattle.std.specs.Prelude.{◌≡◌, ◌↔◌, ℕ, ℤ, List, length, map, All, Any};
+ghost use Rattle.std.specs.Prelude.{◌≡◌, ◌↔◌, ℕ, ℤ, List, length, map, true, All, Any, IfSome};
+ghost use Rattle.std.specs.Option.{option_map};
 ghost use Rattle.mix_system.specs.declared.row.Part.{Part};
 ghost use Rattle.mix_system.specs.Fits.{IsTrueAt};
 ghost use Rattle.wrap_rows.specs.Layout.{clause_from, StandsAt};
 ghost use Rattle.ir_pieces.specs.declared.piece.IrPiece.{IrPiece};
 ghost use Rattle.ir_pieces.specs.declared.list.Placed.{Placed};
-ghost use Rattle.ir_pieces.specs.Pieces.{IsAt, ranges, layout, numbers};
+ghost use Rattle.ir_pieces.specs.Pieces.{IsAt, ranges, layout, numbers, CanFill, CanSay, meaning};
+ghost use Rattle.ir_pieces.specs.Choice.{piece_of, value_of, computed, AreNumbers, AreOperands, AreGiven, AllBefore, IsSoundOp};
+ghost use Rattle.ll_tree.specs.declared.op.Op.{Op};
+ghost use Rattle.ll_rules.specs.Arithmetic.{is_linear};
+ghost use Rattle.bit_rows.specs.declared.bitwise.BitOperand.{BitOperand};
 ghost use Rattle.ir_pieces.specs.Bounded.{IsBounded, edges_of};
 ghost use Rattle.ir_pieces.specs.Lists.{ArePlaced, joined, AreInRanges, AllHold, AllSay, AreSound};
 
@@ -29,4 +34,19 @@ pub fn what_pieces_say()
     ensures sound { (placed : List Placed) (from to : ℕ) (point : List ℤ)
         → ArePlaced from to placed → AllSay placed point
         → AreInRanges placed point → AllHold placed point → AreSound placed point }
+{}
+
+/// The piece of an operation that keeps the verifier's rules stands behind its operands; it can be filled in and read where they are values of their widths;
+/// and it means what the operation computes of their values.
+pub fn what_an_operation_has()
+    ensures stands { (what : Op) (operands : List BitOperand) (first : ℕ)
+        → IsSoundOp what → AreGiven what operands → AllBefore first operands
+        → IfSome (piece_of what operands) (λ piece. IsAt piece first) }
+    ensures takes { (what : Op) (operands : List BitOperand) (point : List ℤ)
+        → AreNumbers point → AreOperands what operands point
+        → IfSome (piece_of what operands) (λ piece. CanFill piece point × CanSay piece point) }
+    ensures means { (what : Op) (operands : List BitOperand) (point : List ℤ)
+        → is_linear what ≡ true → AreGiven what operands → AreOperands what operands point
+        → option_map (λ piece. meaning piece point) (piece_of what operands)
+        ≡ computed what (value_of operands point) }
 {}

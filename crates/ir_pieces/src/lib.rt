@@ -3,10 +3,12 @@
 //! The definitions stand in `specs/`; the laws are contracts of functions that do nothing.
 #![tactic(auto)]
 
+mod choice;
 mod laws;
 mod list;
 mod piece;
 
-pub use laws::{a_piece_is_small, what_pieces_say};
+pub use choice::piece_of;
+pub use laws::{a_piece_is_small, what_an_operation_has, what_pieces_say};
 pub use list::{Placed, fill_all, lay_all, place};
 pub use piece::IrPiece;
