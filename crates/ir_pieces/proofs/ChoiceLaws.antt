@@ -147,12 +147,12 @@ module _ (point : List ℤ) where
   means (op.Cmp pred flags width left right) operands linear given are =
       ap (λ (v : Val). Some v) (two (cmp_of pred flags width) width (operand_at operands 0) (operand_at operands 1) are)
   means (op.Cast of flags from arg to) operands linear given are = ap (λ (v : Val). Some v) (cast-means of flags from to (operand_at operands 0) are)
-  means (op.Select width cond yes no) operands linear given are =
+  means (op.Select width test first second) operands linear given are =
       ap (λ (v : Val). Some v)
       (ap (λ c. select_of c (value_at (operand_at operands 1).vars point) (value_at (operand_at operands 2).vars point)) (reads 1 (operand_at operands 0) are.0)
       ∙ ap₂ (select_of (operand_value (operand_at operands 0) point)) (reads width (operand_at operands 1) are.1) (reads width (operand_at operands 2) are.2))
   means (op.Abs width arg strict) operands linear given are = ap (λ (v : Val). Some (on_number (abs_of strict width) v)) (reads width (operand_at operands 0) are)
-  means (op.Assume cond) operands linear given are = refl
+  means (op.Assume test) operands linear given are = refl
 
   -- ---- what a piece takes
 
@@ -207,7 +207,7 @@ module _ (point : List ℤ) where
   takes (op.Bin of flags width left right) operands numbers are = bin-takes of flags width (operand_at operands 0) (operand_at operands 1) numbers are
   takes (op.Cmp pred flags width left right) operands numbers are = (record { a = are.0.value; b = are.1.value }, record { a = are.0.value; b = are.1.value })
   takes (op.Cast of flags from arg to) operands numbers are = cast-takes of flags from to (operand_at operands 0) are
-  takes (op.Select width cond yes no) operands numbers are =
+  takes (op.Select width test first second) operands numbers are =
       (record { cond = are.0.value; yes = are.1.value; no = are.2.value }, record { cond = are.0.value; yes = are.1.value; no = are.2.value })
   takes (op.Abs width arg strict) operands numbers are = (are.value, are.value)
-  takes (op.Assume cond) operands numbers are = tt
+  takes (op.Assume test) operands numbers are = tt

@@ -113,7 +113,6 @@ bitwise-bounded piece first at =
     let large = at_least (Row (bitwise.row_count a + bitwise.row_count b + 1)) (pos 1) ∷ [] in
     let list = cond disjoint large [] in
     let marked = marks (first + 1) operands list in
-    let Rows : List (List Part) → Type 0 = Each (Each (IsPartOf end)) in
     record {
       named = record {
         rows =

@@ -37,10 +37,10 @@ is_width width is = record { least = is.0; greatest = is.1 }
 
 constant_fits : (written : Operand) (given : BitOperand) (width : ℕ) → given.literal ≡ literal_of written → FitsOperand width written → constant_of given < 2 ^ width
 constant_fits (operand.Name name) given width is fits =
-    subst (λ literal. unwrap_or literal 0 < 2 ^ width) (sym is) (let some : 0 < 2 ^ width = pow_pos width in some)
+    subst (λ literal. unwrap_or literal 0 < 2 ^ width) (sym is) (let some : 0 < 2 ^ width = omega (arith, pow_pos width) in some)
 constant_fits (operand.Const n) given width is fits = subst (λ literal. unwrap_or literal 0 < 2 ^ width) (sym is) fits
 constant_fits operand.Poison given width is fits =
-    subst (λ literal. unwrap_or literal 0 < 2 ^ width) (sym is) (let some : 0 < 2 ^ width = pow_pos width in some)
+    subst (λ literal. unwrap_or literal 0 < 2 ^ width) (sym is) (let some : 0 < 2 ^ width = omega (arith, pow_pos width) in some)
 
 nonzero : (n : ℕ) → not (eqb n 0) ≡ true → 0 < n
 nonzero n test = let apart : n ≢ 0 = eqb-false n 0 (not-true (eqb n 0) test) in omega (arith, apart)
@@ -144,7 +144,7 @@ stands (op.Cmp pred flags width left right) operands first sound given before =
     record { width = is_width width sound.formed.0; a = before.one.number; a_mark = before.one.mark; b = before.two.number; b_mark = before.two.mark }
 stands (op.Cast of flags from arg to) operands first sound given before =
     cast-stands of flags from to first (operand_at operands 0) (is_width from sound.formed.0) (is_width to sound.formed.1) sound.converts before.one
-stands (op.Select width cond yes no) operands first sound given before =
+stands (op.Select width test one two) operands first sound given before =
     record {
       width = is_width width sound.formed.0;
       cond = before.one.number;
@@ -155,4 +155,4 @@ stands (op.Select width cond yes no) operands first sound given before =
       no_mark = before.three.mark;
     }
 stands (op.Abs width arg strict) operands first sound given before = record { width = is_width width sound.formed.0; a = before.one.number; a_mark = before.one.mark }
-stands (op.Assume cond) operands first sound given before = tt
+stands (op.Assume test) operands first sound given before = tt

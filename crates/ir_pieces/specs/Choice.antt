@@ -1,10 +1,11 @@
 -- Which piece an operation has, over operands that are given by their variables.
-use Rattle.std.specs.Prelude.{◌≡◌, ℕ, ◌^◌, ◌<◌, ◌≤◌, Bool, true, false, nat_lt, if◌then◌else◌, ℤ, pos, List, [], ◌∷◌, map, slice_index_or, Option, Some, None}
+use Rattle.std.specs.Prelude.{◌≡◌, ℕ, ◌^◌, ◌<◌, ◌≤◌, Bool, true, false, not, ◌||◌, ◌&&◌, nat_lt, nat_le, if◌then◌else◌, ℤ, pos, List, [], ◌∷◌, map, slice_index_or, Option, Some, None}
 use Rattle.std.specs.Option.{unwrap_or}
 use Rattle.std.specs.List.{AllByRecursion, AllZip}
 use Rattle.mix_system.specs.Row.{number_at}
 use Rattle.ll_tree.specs.declared.block.Operand.{Operand}
 use Rattle.ll_tree.specs.declared.block.Operand.TheVariants as operand
+use Rattle.ll_tree.specs.declared.func.Range.{Range}
 use Rattle.ll_tree.specs.declared.op.BinKind.{BinKind}
 use Rattle.ll_tree.specs.declared.op.BinKind.TheVariants as bin
 use Rattle.ll_tree.specs.declared.op.CastKind.{CastKind}
@@ -132,17 +133,34 @@ cast_piece cast.Zext flags from to a = kind.Zext (record { flags = flags; from =
 cast_piece cast.Sext flags from to a = kind.Sext (record { from = from; to = to; a = a.vars })
 cast_piece cast.Trunc flags from to a = kind.Trunc (record { flags = flags; from = from; to = to; a = a.vars })
 
-abbrev pub select_piece : ℕ → (cond yes no : BitOperand) → IrPiece
-select_piece width cond yes no = kind.Select (record { width = width; cond = cond.vars; yes = yes.vars; no = no.vars })
+abbrev pub select_piece : ℕ → (test first second : BitOperand) → IrPiece
+select_piece width test first second =
+    kind.Select (record { width = width; cond = test.vars; yes = first.vars; no = second.vars })
 
 abbrev pub piece_of : Op → List BitOperand → Option IrPiece
 piece_of (op.Bin of flags width left right) operands = Some (bin_piece of flags width (operand_at operands 0) (operand_at operands 1))
 piece_of (op.Cmp pred flags width left right) operands =
     Some (kind.Compare (record { pred = pred; flags = flags; width = width; a = (operand_at operands 0).vars; b = (operand_at operands 1).vars }))
 piece_of (op.Cast of flags from arg to) operands = Some (cast_piece of flags from to (operand_at operands 0))
-piece_of (op.Select width cond yes no) operands = Some (select_piece width (operand_at operands 0) (operand_at operands 1) (operand_at operands 2))
+piece_of (op.Select width test first second) operands = Some (select_piece width (operand_at operands 0) (operand_at operands 1) (operand_at operands 2))
 piece_of (op.Abs width arg strict) operands = Some (kind.Abs (record { strict = strict; width = width; a = (operand_at operands 0).vars }))
-piece_of (op.Assume cond) operands = None
+piece_of (op.Assume test) operands = None
+
+-- ---- parameters
+
+-- the piece of a parameter whose argument's number stands at a variable, none without a range
+abbrev pub range_piece : Option Range → (width number : ℕ) → Option IrPiece
+range_piece None width number = None
+range_piece (Some range) width number = Some (kind.Ranged (record { width = width; low = range.lo; high = range.hi; number = number }))
+
+-- the number lies in the range: from `lo` up to `hi` without it or, where `lo` is the greater, from `lo` on or below `hi`
+abbrev pub is_between : Range → ℕ → Bool
+is_between range n =
+    if nat_lt range.hi range.lo then (nat_le range.lo n || nat_lt n range.hi) else (nat_le range.lo n && nat_lt n range.hi)
+
+-- a number, or poison where it isn't in the range
+abbrev pub ranged_value : Range → ℕ → Val
+ranged_value range n = poison_if (not (is_between range n)) n
 
 -- ---- what it means
 
@@ -162,9 +180,9 @@ abbrev pub computed : Op → (ℕ → Val) → Option Val
 computed (op.Bin of flags width left right) values = Some (bin_of of flags width (values 0) (values 1))
 computed (op.Cmp pred flags width left right) values = Some (cmp_of pred flags width (values 0) (values 1))
 computed (op.Cast of flags from arg to) values = Some (cast_of of flags from to (values 0))
-computed (op.Select width cond yes no) values = Some (select_of (values 0) (values 1) (values 2))
+computed (op.Select width test first second) values = Some (select_of (values 0) (values 1) (values 2))
 computed (op.Abs width arg strict) values = Some (on_number (abs_of strict width) (values 0))
-computed (op.Assume cond) values = None
+computed (op.Assume test) values = None
 
 -- ---- what is asked of its operands
 
@@ -214,10 +232,10 @@ abbrev pub AreOperands : Op → List BitOperand → List ℤ → Type 0
 AreOperands (op.Bin of flags width left right) operands point = AreOfBin of width (operand_at operands 0) (operand_at operands 1) point
 AreOperands (op.Cmp pred flags width left right) operands point = AreBoth width (operand_at operands 0) (operand_at operands 1) point
 AreOperands (op.Cast of flags from arg to) operands point = IsOperand from (operand_at operands 0) point
-AreOperands (op.Select width cond yes no) operands point =
+AreOperands (op.Select width test first second) operands point =
     IsOperand 1 (operand_at operands 0) point × IsOperand width (operand_at operands 1) point × IsOperand width (operand_at operands 2) point
 AreOperands (op.Abs width arg strict) operands point = IsOperand width (operand_at operands 0) point
-AreOperands (op.Assume cond) operands point = Unit {0}
+AreOperands (op.Assume test) operands point = Unit {0}
 
 -- the literals are those that are written
 abbrev pub AreGiven : Op → List BitOperand → Type 0

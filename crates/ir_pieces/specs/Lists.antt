@@ -6,6 +6,7 @@ use Rattle.wrap_rows.specs.Layout.{Layout, Holds, raised}
 use Rattle.wrap_rows.specs.Piece.{AreIn}
 use Rattle.wrap_rows.specs.Vars.{value_at}
 use Rattle.ir_pieces.specs.declared.list.Placed.{Placed}
+use Rattle.ir_pieces.specs.Bounded.{edges_of}
 use Rattle.ir_pieces.specs.Pieces.{IsAt, ranges, layout, vars, CanFill, CanSay, meaning}
 
 -- ---- where they stand
@@ -36,6 +37,11 @@ behind one two = record {
 abbrev pub joined : List Placed → Layout
 joined [] = record { rows = []; clauses = [] }
 joined (it ∷ others) = behind (layout it.piece it.first) (joined others)
+
+-- how many edges they go over
+abbrev pub edges_in : List Placed → ℕ
+edges_in [] = 0
+edges_in (it ∷ others) = edges_of it.piece + edges_in others
 
 -- ---- what holds of all at a point
 

@@ -1,6 +1,6 @@
 //! Laws of the definitions that contracts cite. Each is the contract of a function that does nothing.
 
-ghost use Rattle.std.specs.Prelude.{◌≡◌, ◌↔◌, ℕ, ℤ, List, length, map, true, All, Any, IfSome};
+ghost use Rattle.std.specs.Prelude.{◌≡◌, ◌↔◌, ◌+◌, ◌*◌, ◌<◌, ◌≤◌, ℕ, ℤ, pos, List, length, map, true, All, Any, Some, IfSome};
 ghost use Rattle.std.specs.Option.{option_map};
 ghost use Rattle.mix_system.specs.declared.row.Part.{Part};
 ghost use Rattle.mix_system.specs.Fits.{IsTrueAt};
@@ -8,12 +8,16 @@ ghost use Rattle.wrap_rows.specs.Layout.{clause_from, StandsAt};
 ghost use Rattle.ir_pieces.specs.declared.piece.IrPiece.{IrPiece};
 ghost use Rattle.ir_pieces.specs.declared.list.Placed.{Placed};
 ghost use Rattle.ir_pieces.specs.Pieces.{IsAt, ranges, layout, numbers, CanFill, CanSay, meaning};
-ghost use Rattle.ir_pieces.specs.Choice.{piece_of, value_of, computed, AreNumbers, AreOperands, AreGiven, AllBefore, IsSoundOp};
+ghost use Rattle.ir_pieces.specs.Choice.{piece_of, range_piece, ranged_value, value_of, computed, AreNumbers, AreOperands, AreGiven, AllBefore, IsSoundOp};
 ghost use Rattle.ll_tree.specs.declared.op.Op.{Op};
+ghost use Rattle.ll_tree.specs.declared.func.Range.{Range};
+ghost use Rattle.ll_tree.specs.Formed as formed;
+ghost use Rattle.mix_system.specs.Row.{number_at};
+ghost use Rattle.wrap_rows.specs.Vars.{IsNumber};
 ghost use Rattle.ll_rules.specs.Arithmetic.{is_linear};
 ghost use Rattle.bit_rows.specs.declared.bitwise.BitOperand.{BitOperand};
 ghost use Rattle.ir_pieces.specs.Bounded.{IsBounded, edges_of};
-ghost use Rattle.ir_pieces.specs.Lists.{ArePlaced, joined, AreInRanges, AllHold, AllSay, AreSound};
+ghost use Rattle.ir_pieces.specs.Lists.{ArePlaced, edges_in, joined, AreInRanges, AllHold, AllSay, AreSound};
 
 /// A piece lays at most 5 rows and 138 clauses over at most 98 variables of its own, and of a phi a row and four clauses more for each edge.
 /// They name only variables before its end, and it fills in exactly its own.
@@ -49,4 +53,27 @@ pub fn what_an_operation_has()
         → is_linear what ≡ true → AreGiven what operands → AreOperands what operands point
         → option_map (λ piece. meaning piece point) (piece_of what operands)
         ≡ computed what (value_of operands point) }
+{}
+
+/// The piece of a parameter with a range can be filled in and read at each argument of its width, and means the argument, or poison where it isn't in the range.
+pub fn what_a_range_has()
+    ensures stands { (range : Range) (width number first : ℕ)
+        → formed.IsWidth width → formed.IsRange width range → number < first
+        → IfSome (range_piece (Some range) width number) (λ piece. IsAt piece first) }
+    ensures takes { (range : Range) (width number : ℕ) (point : List ℤ)
+        → IsNumber width (number_at point number)
+        → IfSome (range_piece (Some range) width number)
+        (λ piece. CanFill piece point × CanSay piece point) }
+    ensures means { (range : Range) (width number n : ℕ) (point : List ℤ)
+        → formed.IsRange width range → number_at point number ≡ pos n
+        → IfSome (range_piece (Some range) width number)
+        (λ piece. meaning piece point ≡ ranged_value range n) }
+{}
+
+/// All pieces of a list lay at most 5 rows and 138 clauses each, and of phis a row and four clauses more for each edge.
+pub fn what_pieces_lay_is_little()
+    ensures rows { (placed : List Placed) (from to : ℕ) → ArePlaced from to placed
+        → length (joined placed).rows ≤ 5 * length placed + edges_in placed }
+    ensures clauses { (placed : List Placed) (from to : ℕ) → ArePlaced from to placed
+        → length (joined placed).clauses ≤ 138 * length placed + 4 * edges_in placed }
 {}
