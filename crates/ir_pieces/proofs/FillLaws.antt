@@ -80,8 +80,8 @@ finds Known from to (it ∷ others) point are room lasts ready known =
     let in_ranges = (complete it.piece it.first point are.1 mine within).0 in (
       mine,
       finds (λ other. Known other × AreIn it.first (ranges it.piece) other) (end_of it) to others (after it point) are.2
-      (omega (arith, room, put-length it.first (numbers it.piece point) point))
-      (lasts-in Known it.first (ranges it.piece) (end_of it) to others (omega arith) are.2 lasts.1) ready.1 (lasts.0 point known, in_ranges),
+          (omega (arith, room, put-length it.first (numbers it.piece point) point))
+          (lasts-in Known it.first (ranges it.piece) (end_of it) to others (omega arith) are.2 lasts.1) ready.1 (lasts.0 point known, in_ranges),
     )
 
 -- what lies outside the pieces of a list lasts over each of them

@@ -119,9 +119,10 @@ bitwise-bounded piece first at =
             each-append (Each (IsPartOf end)) a_rows (b_rows ++ own_row ∷ excess_rows)
             (operand_rows-of a end w piece.a.vars.number left (omega (arith, at.a)) (omega (arith, count)))
             (each-append (Each (IsPartOf end)) b_rows (own_row ∷ excess_rows)
-            (operand_rows-of b end w piece.b.vars.number right (omega (arith, at.b)) (omega (arith, count)))
-            (bits_row-of end w first result (omega (arith, count)) (omega (arith, count)),
-            each-if (Each (IsPartOf end)) disjoint excess [] ((omega (arith, at.a), (omega (arith, at.b), (omega (arith, count), tt))), tt) tt));
+            (operand_rows-of b end w piece.b.vars.number right (omega (arith, at.b)) (omega (arith, count))) (
+              bits_row-of end w first result (omega (arith, count)) (omega (arith, count)),
+              each-if (Each (IsPartOf end)) disjoint excess [] ((omega (arith, at.a), (omega (arith, at.b), (omega (arith, count), tt))), tt) tt,
+            ));
         clauses =
             both end a_clauses (b_clauses ++ (own ++ (bits ++ marked))) (operand_clauses-of a end 0)
             (both end b_clauses (own ++ (bits ++ marked)) (operand_clauses-of b end (bitwise.row_count a))

@@ -133,9 +133,26 @@ select-bounded piece first at =
       named = record {
         rows = ((omega arith, (omega (arith, at.yes), tt)), ((omega arith, (omega (arith, at.no), tt)), tt));
         clauses = (
-          (c, (tt, tt)), ((c, (tt, tt)), ((c, (tt, tt)), ((c, (tt, tt)),
-              ((m, (c_mark, tt)), ((c, (m, (yes_mark, tt))), ((c, (m, (no_mark, tt))),
-                  ((m, (c_mark, (c, (yes_mark, tt)))), ((m, (c_mark, (c, (no_mark, tt)))), tt))))))))
+          (c, (tt, tt)),
+          (
+            (c, (tt, tt)),
+            (
+              (c, (tt, tt)),
+              (
+                (c, (tt, tt)),
+                (
+                  (m, (c_mark, tt)),
+                  (
+                    (c, (m, (yes_mark, tt))),
+                    (
+                      (c, (m, (no_mark, tt))),
+                      ((m, (c_mark, (c, (yes_mark, tt)))), ((m, (c_mark, (c, (no_mark, tt)))), tt)),
+                    ),
+                  ),
+                ),
+              ),
+            ),
+          ),
         );
       };
       vars = omega arith;

@@ -21,10 +21,16 @@ pub fn piece_of(op: &Op, operands: &[BitOperand]) -> Option<IrPiece>
     let b = operand_at(operands, 1);
     match op {
         Op::Bin {
-            kind, flags, width, ..
+            kind,
+            flags,
+            width,
+            ..
         } => Some(bin_piece(*kind, *flags, *width, a, b)),
         Op::Cmp {
-            pred, flags, width, ..
+            pred,
+            flags,
+            width,
+            ..
         } => Some(IrPiece::Compare(Compare {
             pred: *pred,
             flags: *flags,
@@ -187,13 +193,7 @@ fn right_kind(signed: bool) -> ShiftKind
     }
 }
 
-fn shifted_out(
-    kind: ShiftKind,
-    flags: Flags,
-    width: u32,
-    a: BitOperand,
-    by: BitOperand,
-) -> IrPiece
+fn shifted_out(kind: ShiftKind, flags: Flags, width: u32, a: BitOperand, by: BitOperand) -> IrPiece
     ensures { result ≡ spec.shifted_out kind flags width a by }
 {
     IrPiece::ShiftOut(ShiftOut {

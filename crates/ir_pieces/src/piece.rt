@@ -6,7 +6,8 @@ use ir_meaning::Val;
 use mix_system::System;
 use std::alloc::Global;
 use wrap_rows::{
-    Compare, Phi, Piece, Ranged, Scaled, Select, Sext, ShiftOut, ShiftRight, Sum, Trunc, ValueVars, Zext,
+    Compare, Phi, Piece, Ranged, Scaled, Select, Sext, ShiftOut, ShiftRight, Sum, Trunc, ValueVars,
+    Zext,
 };
 use wx_base::NoMemory;
 
