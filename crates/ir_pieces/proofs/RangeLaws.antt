@@ -15,19 +15,19 @@ use Rattle.ir_pieces.specs.Pieces.{IsAt, CanFill, CanSay, meaning}
 use Rattle.ir_pieces.specs.Choice.{range_piece, is_between, ranged_value}
 
 le_not : (a b : ℕ) → nat_le a b ≡ not (nat_lt b a)
-le_not a b = by_test (λ test. nat_le a b ≡ not test) (nat_lt b a) (λ yes. no yes) (λ fails. passes fails)
+le_not a b = by_test (λ test. nat_le a b ≡ not test) (nat_lt b a) (λ is. isnt is) (λ fails. passes fails)
   where
-    no : nat_lt b a ≡ true → nat_le a b ≡ false
-    no yes = grind (arith, nat_tests)
+    isnt : nat_lt b a ≡ true → nat_le a b ≡ false
+    isnt is = grind (arith, nat_tests)
 
     passes : nat_lt b a ≡ false → nat_le a b ≡ true
     passes fails = grind (arith, nat_tests)
 
 other_way : (a b : ℕ) → a ≢ b → nat_lt b a ≡ not (nat_lt a b)
-other_way a b apart = by_test (λ test. nat_lt b a ≡ not test) (nat_lt a b) (λ yes. no yes) (λ fails. passes fails)
+other_way a b apart = by_test (λ test. nat_lt b a ≡ not test) (nat_lt a b) (λ is. isnt is) (λ fails. passes fails)
   where
-    no : nat_lt a b ≡ true → nat_lt b a ≡ false
-    no yes = grind (arith, nat_tests)
+    isnt : nat_lt a b ≡ true → nat_lt b a ≡ false
+    isnt is = grind (arith, nat_tests)
 
     passes : nat_lt a b ≡ false → nat_lt b a ≡ true
     passes fails = grind (arith, nat_tests)
@@ -36,26 +36,26 @@ other_way a b apart = by_test (λ test. nat_lt b a ≡ not test) (nat_lt a b) (�
 lt_same : (a b : ℕ) → int_lt (pos a) (pos b) ≡ nat_lt a b
 lt_same a b =
     same_tests (int_lt (pos a) (pos b)) (nat_lt a b)
-    (λ yes. let below : a < b = omega (arith, ints, lt_said (pos a) (pos b) yes) in is_below below)
-    (λ yes. lt_yes (pos a) (pos b) (omega (arith, ints, said yes)))
+    (λ is. let below : a < b = omega (arith, ints, lt_said (pos a) (pos b) is) in is_below below)
+    (λ is. lt_yes (pos a) (pos b) (omega (arith, ints, said is)))
   where
     is_below : a < b → nat_lt a b ≡ true
     is_below below = grind (arith, nat_tests)
 
     said : nat_lt a b ≡ true → a < b
-    said yes = grind (arith, nat_tests)
+    said is = grind (arith, nat_tests)
 
 le_same : (a b : ℕ) → int_le (pos a) (pos b) ≡ nat_le a b
 le_same a b =
     same_tests (int_le (pos a) (pos b)) (nat_le a b)
-    (λ yes. let below : a ≤ b = omega (arith, ints, le_said (pos a) (pos b) yes) in is_below below)
-    (λ yes. le_yes (pos a) (pos b) (omega (arith, ints, said yes)))
+    (λ is. let below : a ≤ b = omega (arith, ints, le_said (pos a) (pos b) is) in is_below below)
+    (λ is. le_yes (pos a) (pos b) (omega (arith, ints, said is)))
   where
     is_below : a ≤ b → nat_le a b ≡ true
     is_below below = grind (arith, nat_tests)
 
     said : nat_le a b ≡ true → a ≤ b
-    said yes = grind (arith, nat_tests)
+    said is = grind (arith, nat_tests)
 
 -- the order of the bounds, the number below the low one, the number not below the high one
 abbrev outside : (rising below above : Bool) → Bool

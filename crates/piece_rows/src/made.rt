@@ -224,7 +224,10 @@ fn divided(kind: DivisionKind, flags: Flags, divisor: u32) -> Option<IrPiece>
     ensures at { IfSome result (λ piece. IsAt piece 8) }
     ensures edges { IfSome result (λ piece. edges_of piece ≡ 0) }
 {
-    if divisor == 0 || divisor > 255 {
+    if divisor == 0 {
+        return None;
+    }
+    if divisor > 255 {
         return None;
     }
     Some(IrPiece::UnsignedDivision(UnsignedDivision {
@@ -241,7 +244,10 @@ fn signed(kind: DivisionKind, flags: Flags, divisor: u32) -> Option<IrPiece>
     ensures at { IfSome result (λ piece. IsAt piece 8) }
     ensures edges { IfSome result (λ piece. edges_of piece ≡ 0) }
 {
-    if divisor == 0 || divisor > 254 {
+    if divisor == 0 {
+        return None;
+    }
+    if divisor > 254 {
         return None;
     }
     Some(IrPiece::SignedDivision(SignedDivision {
@@ -282,7 +288,10 @@ fn ranged(low: u32, high: u32) -> Option<IrPiece>
     ensures at { IfSome result (λ piece. IsAt piece 8) }
     ensures edges { IfSome result (λ piece. edges_of piece ≡ 0) }
 {
-    if low > 255 || high > 255 {
+    if low > 255 {
+        return None;
+    }
+    if high > 255 {
         return None;
     }
     Some(IrPiece::Ranged(Ranged {
