@@ -8,7 +8,7 @@ use Rattle.mix_system.specs.declared.row.Part.{Part}
 use Rattle.ll_tree.specs.declared.op.Pred.{Pred}
 use Rattle.ll_tree.specs.declared.op.Pred.TheVariants.{Eq, Ne, Ugt, Uge, Ult, Ule, Sgt, Sge, Slt, Sle}
 use Rattle.wrap_rows.specs.Layout.{at_least}
-use Rattle.wrap_rows.specs.Blocks.{equals, from_operand, from_listed, closing, marks, sign_row, sign_clauses, compared}
+use Rattle.wrap_rows.specs.Blocks.{equals, from_operand, from_listed, closing, marks, sign_clauses, compared}
 use Rattle.ir_pieces.specs.Bounded.{IsPartOf, IsLitOf}
 
 pub each-append : {X : Type 0} (P : X → Type 0) (xs ys : List X) → Each P xs → Each P ys → Each P (xs ++ ys)

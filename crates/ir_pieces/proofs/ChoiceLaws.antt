@@ -1,10 +1,8 @@
 -- The piece of an operation is one of the trait's, takes the operation's operands, and means what the operation computes.
-use Rattle.std.proofs.Common.{◌≡◌, ℕ, ◌+◌, ◌-◌, ◌^◌, ◌<◌, ◌≤◌, Bool, true, false, cond, not, ◌||◌, ◌==◌, nat_lt, ℤ, pos, List, refl, sym, ap, ap₂, ◌∙◌, subst, arith}
+use Rattle.std.proofs.Common.{◌≡◌, ℕ, Bool, true, false, cond, ◌||◌, nat_lt, ℤ, List, refl, sym, ap, ap₂, ◌∙◌, subst}
 use Rattle.std.specs.Prelude.{Option, None, Some, IfSome, unsigned_abs}
 use Rattle.std.specs.Option.{option_map, unwrap_or}
-use Rattle.std.specs.Ordering.{int_eq}
-use Rattle.std.proofs.lemmas.Bool.{false≢true, and_parts}
-use Rattle.std.proofs.lemmas.Bool.Decides.{nat_tests}
+use Rattle.std.proofs.lemmas.Bool.{false≢true}
 use Rattle.mix_system.specs.Row.{number_at}
 use Rattle.ll_tree.specs.declared.block.Operand.{Operand}
 use Rattle.ll_tree.specs.declared.block.Operand.TheVariants as operand
@@ -15,18 +13,14 @@ use Rattle.ll_tree.specs.declared.op.CastKind.TheVariants as cast
 use Rattle.ll_tree.specs.declared.op.Flags.{Flags}
 use Rattle.ll_tree.specs.declared.op.Op.{Op}
 use Rattle.ll_tree.specs.declared.op.Op.TheVariants as op
-use Rattle.ll_tree.specs.Formed.{FitsOperand, IsFormedOp}
-use Rattle.ll_tree.specs.Formed as formed
-use Rattle.ll_rules.specs.Arithmetic.{is_constant, are_linear, is_linear, is_unsigned_divisor, is_signed_divisor, is_divisor, has_divisor}
-use Rattle.ll_item_rules.specs.Widths.{cast_differs, op_differs}
+use Rattle.ll_rules.specs.Arithmetic.{is_constant, are_linear, is_linear}
 use Rattle.ir_meaning.specs.declared.value.Val.{Val}
-use Rattle.ir_meaning.specs.Whole.{IsWidth}
 use Rattle.ir_meaning.specs.Value.{poison_if, on_number, select_of}
 use Rattle.ir_meaning.specs.Rows.{bin_of, cast_of, abs_of}
 use Rattle.ir_meaning.specs.Compare.{cmp_of}
 use Rattle.wrap_rows.specs.declared.vars.ValueVars.{ValueVars}
-use Rattle.wrap_rows.specs.declared.scaled.Scale.TheVariants.{Before, Behind, Shift}
-use Rattle.wrap_rows.specs.declared.shift_out.ShiftKind.TheVariants.{Left, Right, SignedRight}
+use Rattle.wrap_rows.specs.declared.scaled.Scale.TheVariants.{Shift}
+use Rattle.wrap_rows.specs.declared.shift_out.ShiftKind.TheVariants.{Left}
 use Rattle.bit_rows.specs.declared.bitwise.BitKind.{BitKind}
 use Rattle.bit_rows.specs.declared.bitwise.BitKind.TheVariants.{And, Or, Xor}
 use Rattle.bit_rows.specs.declared.bitwise.BitOperand.{BitOperand}
@@ -34,8 +28,8 @@ use Rattle.wrap_rows.specs.Vars.{is_marked, value_at}
 use Rattle.bit_rows.specs.Bitwise.{IsLiteral}
 use Rattle.ir_pieces.specs.declared.piece.IrPiece.{IrPiece}
 use Rattle.ir_pieces.specs.declared.piece.IrPiece.TheVariants as kind
-use Rattle.ir_pieces.specs.Pieces.{IsAt, CanFill, CanSay, meaning}
-use Rattle.ir_pieces.specs.Choice.{literal_of, constant_of, operand_at, right_kind, scaled_piece, shifted_out, left_piece, right_piece, product_by, bitwise_piece, bin_piece, cast_piece, piece_of, given_value, operand_value, value_of, computed, IsOperand, IsConstant, StandsBefore, AreFactors, AreBoth, AreWithConstant, AreOfBin, AreNumbers, AreOperands, AreGiven, AllBefore, IsSoundOp}
+use Rattle.ir_pieces.specs.Pieces.{CanFill, CanSay, meaning}
+use Rattle.ir_pieces.specs.Choice.{literal_of, constant_of, operand_at, right_kind, scaled_piece, shifted_out, product_by, bitwise_piece, bin_piece, cast_piece, piece_of, given_value, operand_value, value_of, computed, IsOperand, AreFactors, AreBoth, AreWithConstant, AreOfBin, AreNumbers, AreOperands, AreGiven}
 
 -- ---- literals
 

@@ -3,7 +3,6 @@ use Rattle.std.proofs.Common.{ℕ, ◌+◌, ◌*◌, ◌≤◌, List, [], ◌∷
 use Rattle.std.proofs.lemmas.List.{length-map}
 use Rattle.wrap_rows.specs.Layout.{raised}
 use Rattle.ir_pieces.specs.declared.list.Placed.{Placed}
-use Rattle.ir_pieces.specs.Bounded.{edges_of}
 use Rattle.ir_pieces.specs.Pieces.{layout}
 use Rattle.ir_pieces.specs.Lists.{end_of, ArePlaced, edges_in, joined}
 use Rattle.ir_pieces.proofs.PieceLaws.{bounded}

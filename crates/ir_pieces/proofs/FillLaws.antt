@@ -1,12 +1,10 @@
 -- Lists of pieces are filled in one behind the other.
-use Rattle.std.proofs.Common.{◌≡◌, ℕ, ◌+◌, ◌<◌, ◌≤◌, ◌⊎◌, ℤ, List, [], ◌∷◌, length, refl, sym, ap, ◌∙◌, inl, inr, subst, arith}
+use Rattle.std.proofs.Common.{◌≡◌, ℕ, ◌+◌, ◌<◌, ◌≤◌, ◌⊎◌, ℤ, List, [], ◌∷◌, length, refl, ◌∙◌, inl, inr, arith}
 use Rattle.mix_system.specs.Row.{number_at}
 use Rattle.wrap_rows.specs.Layout.{Holds}
 use Rattle.wrap_rows.specs.Piece.{put_from, AreIn}
-use Rattle.wrap_rows.specs.Vars.{value_at}
 use Rattle.wrap_rows.proofs.PutLaws.{put-before}
 use Rattle.ir_pieces.specs.declared.list.Placed.{Placed}
-use Rattle.ir_pieces.specs.Bounded.{edges_of}
 use Rattle.ir_pieces.specs.Pieces.{IsAt, ranges, layout, CanFill, numbers}
 use Rattle.ir_pieces.specs.Lists.{end_of, ArePlaced, IsFree, AreInRanges, AllHold, AllSay, AreSound, AgreeOutside, AreReady}
 use Rattle.ir_pieces.proofs.PieceLaws.{bounded, numbers_fit, sound, complete}

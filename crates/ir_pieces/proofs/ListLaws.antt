@@ -1,5 +1,5 @@
 -- Lists of pieces: where they stand and what they lay.
-use Rattle.std.proofs.Common.{◌≡◌, ℕ, zero, suc, ◌+◌, ◌<◌, ◌≤◌, Bool, true, false, ◌&&◌, nat_lt, ◌⊎◌, ℤ, List, [], ◌∷◌, ◌++◌, length, length-append, map, append_assoc, refl, sym, ap, ap₂, ◌∙◌, inl, inr, subst, arith}
+use Rattle.std.proofs.Common.{◌≡◌, ℕ, zero, suc, ◌+◌, ◌<◌, ◌≤◌, Bool, true, false, ◌&&◌, ℤ, List, [], ◌∷◌, ◌++◌, length, length-append, map, append_assoc, refl, sym, ap, ap₂, ◌∙◌, inl, subst, arith}
 use Rattle.std.specs.Prelude.{slice_index_or, All, Any, ◌↔◌}
 use Rattle.std.specs.List.{list_all}
 use Rattle.std.proofs.lemmas.Bool.{false≢true}

@@ -1,5 +1,5 @@
 -- A piece fills in exactly its own variables.
-use Rattle.std.proofs.Common.{◌≡◌, ℕ, ◌+◌, ◌%◌, ◌^◌, Bool, true, false, ℤ, pos, List, [], ◌∷◌, ◌++◌, length, length-append, refl, arith}
+use Rattle.std.proofs.Common.{◌≡◌, ℕ, ◌%◌, ◌^◌, Bool, true, false, ℤ, pos, List, [], ◌∷◌, ◌++◌, length, length-append, refl, arith}
 use Rattle.std.specs.Prelude.{Option, None, Some}
 use Rattle.mix_system.specs.Row.{number_at}
 use Rattle.wrap_rows.specs.Blocks.{sign_of}

@@ -1,10 +1,9 @@
 -- The pieces of bit_rows and div_rows are bounded.
-use Rattle.std.proofs.Common.{◌≡◌, ℕ, zero, suc, ◌+◌, ◌-◌, ◌*◌, ◌^◌, ◌<◌, ◌≤◌, Bool, true, false, cond, ℤ, pos, List, [], ◌∷◌, ◌++◌, length, length-append, refl, arith}
+use Rattle.std.proofs.Common.{◌≡◌, ℕ, zero, suc, ◌+◌, ◌-◌, ◌*◌, ◌^◌, ◌<◌, ◌≤◌, Bool, true, false, cond, pos, List, [], ◌∷◌, ◌++◌, length, length-append, arith}
 use Rattle.std.specs.Prelude.{Option, None, Some}
 use Rattle.std.specs.List.{AllByRecursion as Each}
 use Rattle.mix_system.specs.declared.literal.Term.TheVariants.{Var, Row}
 use Rattle.mix_system.specs.declared.literal.Lit.{Lit}
-use Rattle.mix_system.specs.declared.row.Part.{Part}
 use Rattle.bit_rows.specs.declared.bits.BitVars.{BitVars}
 use Rattle.bit_rows.specs.declared.bitwise.BitKind.{BitKind}
 use Rattle.bit_rows.specs.declared.bitwise.BitKind.TheVariants.{And, Or, Xor}
@@ -15,18 +14,17 @@ use Rattle.div_rows.specs.declared.unsigned_division.UnsignedDivision.{UnsignedD
 use Rattle.div_rows.specs.declared.signed_division.SignedDivision.{SignedDivision}
 use Rattle.div_rows.specs.declared.abs.Abs.{Abs}
 use Rattle.div_rows.specs.declared.extreme.ExtremeKind.{ExtremeKind}
-use Rattle.div_rows.specs.declared.extreme.ExtremeKind.TheVariants.{Least, Greatest}
 use Rattle.div_rows.specs.declared.extreme.Extreme.{Extreme}
-use Rattle.wrap_rows.specs.Layout.{at_least, at_most}
-use Rattle.wrap_rows.specs.Blocks.{equals, marks, sign_clauses, less_or_equal}
-use Rattle.bit_rows.specs.Bits.{bit_ranges, bits_row, minus_bits, lowest, others, StandBefore}
+use Rattle.wrap_rows.specs.Layout.{at_least}
+use Rattle.wrap_rows.specs.Blocks.{equals, marks, sign_clauses}
+use Rattle.bit_rows.specs.Bits.{bits_row, minus_bits, others, StandBefore}
 use Rattle.bit_rows.specs.Bitwise as bitwise
 use Rattle.div_rows.specs.Division.{is_exact, chosen}
 use Rattle.div_rows.specs.UnsignedDivision as unsigned_division
 use Rattle.div_rows.specs.SignedDivision as signed_division
 use Rattle.div_rows.specs.Abs as abs
 use Rattle.div_rows.specs.Extreme as extreme
-use Rattle.bit_rows.proofs.BitsLaws.{ranges_length, lowest_before, others_before}
+use Rattle.bit_rows.proofs.BitsLaws.{lowest_before, others_before}
 use Rattle.bit_rows.proofs.LayingLaws.{stand_before, ranges_count}
 use Rattle.ir_pieces.specs.Bounded.{IsPartOf, IsLitOf, IsBounded}
 use Rattle.ir_pieces.proofs.BoundLaws.{each-append, each-if, AreOf, equals-of, sign_clauses-of, marks-of, marks-count, if-count}

@@ -1,6 +1,6 @@
 -- The piece of a parameter with a range.
-use Rattle.std.proofs.Common.{◌≡◌, ◌≢◌, ℕ, ◌<◌, ◌≤◌, ◌^◌, Bool, true, false, cond, not, ◌||◌, ◌&&◌, nat_lt, ℤ, pos, List, refl, sym, ap, ap₂, ◌∙◌, arith}
-use Rattle.std.specs.Prelude.{Option, None, Some, IfSome, nat_le, int_lt, int_le, unsigned_abs}
+use Rattle.std.proofs.Common.{◌≡◌, ◌≢◌, ℕ, ◌<◌, ◌≤◌, Bool, true, false, cond, not, ◌||◌, ◌&&◌, nat_lt, ℤ, pos, List, refl, sym, ap, ap₂, ◌∙◌, arith}
+use Rattle.std.specs.Prelude.{Some, IfSome, nat_le, int_lt, int_le, unsigned_abs}
 use Rattle.std.proofs.lemmas.Bool.Decides.{nat_tests}
 use Rattle.std.proofs.lemmas.Int.{ints}
 use Rattle.mix_system.specs.Row.{number_at}
@@ -12,7 +12,7 @@ use Rattle.wrap_rows.specs.Vars.{IsNumber}
 use Rattle.wrap_rows.proofs.CaseLaws.{by_test}
 use Rattle.wrap_rows.proofs.ReadLaws.{same_tests, le_yes, le_said, lt_yes, lt_said}
 use Rattle.ir_pieces.specs.Pieces.{IsAt, CanFill, CanSay, meaning}
-use Rattle.ir_pieces.specs.Choice.{range_piece, is_between, ranged_value}
+use Rattle.ir_pieces.specs.Choice.{range_piece, ranged_value}
 
 le_not : (a b : ℕ) → nat_le a b ≡ not (nat_lt b a)
 le_not a b = by_test (λ test. nat_le a b ≡ not test) (nat_lt b a) (λ is. isnt is) (λ fails. passes fails)

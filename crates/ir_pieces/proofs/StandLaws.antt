@@ -1,5 +1,5 @@
 -- The piece of a sound operation stands behind its operands.
-use Rattle.std.proofs.Common.{◌≡◌, ◌≢◌, ℕ, ◌+◌, ◌-◌, ◌^◌, ◌<◌, ◌≤◌, Bool, true, false, cond, not, ◌||◌, ◌&&◌, eqb, nat_lt, refl, sym, ◌∙◌, subst, arith, List}
+use Rattle.std.proofs.Common.{◌≡◌, ◌≢◌, ℕ, ◌+◌, ◌-◌, ◌^◌, ◌<◌, ◌≤◌, Bool, true, false, cond, not, eqb, nat_lt, refl, sym, subst, arith, List}
 use Rattle.std.specs.Prelude.{Option, None, Some, IfSome, nat_le}
 use Rattle.std.specs.Option.{unwrap_or}
 use Rattle.std.proofs.lemmas.Bool.{false≢true, eqb-false, and_parts, not-true}
@@ -19,8 +19,8 @@ use Rattle.ll_tree.specs.Formed as formed
 use Rattle.ll_rules.specs.Arithmetic.{is_constant, are_linear, is_unsigned_divisor, is_signed_divisor, is_divisor}
 use Rattle.ll_item_rules.specs.Widths.{cast_differs}
 use Rattle.ir_meaning.specs.Whole.{IsWidth}
-use Rattle.wrap_rows.specs.declared.scaled.Scale.TheVariants.{Before, Behind, Shift}
-use Rattle.wrap_rows.specs.declared.shift_out.ShiftKind.TheVariants.{Left, Right, SignedRight}
+use Rattle.wrap_rows.specs.declared.scaled.Scale.TheVariants.{Shift}
+use Rattle.wrap_rows.specs.declared.shift_out.ShiftKind.TheVariants.{Left}
 use Rattle.bit_rows.specs.declared.bitwise.BitKind.{BitKind}
 use Rattle.bit_rows.specs.declared.bitwise.BitKind.TheVariants.{And, Or, Xor}
 use Rattle.bit_rows.specs.declared.bitwise.BitOperand.{BitOperand}

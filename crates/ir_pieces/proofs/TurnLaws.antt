@@ -3,11 +3,11 @@ use Rattle.std.proofs.Common.{◌≡◌, ℕ, ◌+◌, ◌<◌, ◌≤◌, ◌^�
 use Rattle.std.proofs.lemmas.List.{length-map, drop_more}
 use Rattle.mix_system.specs.System.{System}
 use Rattle.wrap_rows.specs.Normal.{row_of}
-use Rattle.wrap_rows.specs.Layout.{Layout, Holds, raised, clause_from}
+use Rattle.wrap_rows.specs.Layout.{Holds, raised, clause_from}
 use Rattle.wrap_rows.specs.Piece.{Lays, AreIn}
 use Rattle.ir_pieces.specs.declared.list.Placed.{Placed}
 use Rattle.ir_pieces.specs.Pieces.{IsAt, ranges, layout}
-use Rattle.ir_pieces.specs.Lists.{end_of, ArePlaced, behind, joined}
+use Rattle.ir_pieces.specs.Lists.{end_of, ArePlaced, joined}
 use Rattle.ir_pieces.proofs.ListLaws.{placed_from, placed_end, placed_more, lays-behind}
 use Rattle.ir_pieces.proofs.FillLaws.{IsFilled, FindAll, after, filled-one}
 

@@ -1,11 +1,10 @@
 -- The pieces of wrap_rows are bounded.
-use Rattle.std.proofs.Common.{◌≡◌, ℕ, ◌+◌, ◌-◌, ◌*◌, ◌^◌, ◌<◌, ◌≤◌, Bool, true, false, cond, ◌||◌, nat_lt, ℤ, pos, negsuc, neg_ℤ, List, [], ◌∷◌, ◌++◌, length, length-append, map, refl, arith}
+use Rattle.std.proofs.Common.{◌≡◌, ℕ, ◌+◌, ◌-◌, ◌*◌, ◌^◌, ◌<◌, ◌≤◌, Bool, true, false, cond, ◌||◌, nat_lt, pos, List, [], ◌∷◌, ◌++◌, length, length-append, map, refl, arith}
 use Rattle.std.specs.List.{AllByRecursion as Each}
 use Rattle.std.proofs.lemmas.List.{length-map}
 use Rattle.std.proofs.lemmas.List.Elements.{recursion_from_All}
-use Rattle.mix_system.specs.declared.literal.Term.TheVariants.{Var, Row}
+use Rattle.mix_system.specs.declared.literal.Term.TheVariants.{Var}
 use Rattle.mix_system.specs.declared.literal.Lit.{Lit}
-use Rattle.mix_system.specs.declared.row.Part.{Part}
 use Rattle.wrap_rows.specs.declared.zext.Zext.{Zext}
 use Rattle.wrap_rows.specs.declared.sext.Sext.{Sext}
 use Rattle.wrap_rows.specs.declared.trunc.Trunc.{Trunc}
@@ -20,7 +19,7 @@ use Rattle.wrap_rows.specs.declared.shift_right.ShiftRight.{ShiftRight}
 use Rattle.wrap_rows.specs.declared.compare.Compare.{Compare}
 use Rattle.wrap_rows.specs.declared.phi.Incoming.{Incoming}
 use Rattle.wrap_rows.specs.declared.phi.Phi.{Phi}
-use Rattle.wrap_rows.specs.Layout.{Layout, at_least}
+use Rattle.wrap_rows.specs.Layout.{at_least}
 use Rattle.wrap_rows.specs.Blocks.{equals, marks, sign_clauses, compared}
 use Rattle.wrap_rows.specs.Wrapping.{leaving, exceeding, listed}
 use Rattle.wrap_rows.specs.Zext as zext
@@ -35,7 +34,7 @@ use Rattle.wrap_rows.specs.ShiftRight as shift_right
 use Rattle.wrap_rows.specs.Compare as compare
 use Rattle.wrap_rows.specs.Phi as phi
 use Rattle.ir_pieces.specs.Bounded.{IsPartOf, IsLitOf, IsBounded}
-use Rattle.ir_pieces.proofs.BoundLaws.{each-append, each-if, AreOf, equals-of, sign_clauses-of, marks-of, compared-of, two-of, three-of, marks-count, if-count, compared-count}
+use Rattle.ir_pieces.proofs.BoundLaws.{each-append, each-if, AreOf, equals-of, sign_clauses-of, marks-of, compared-of, marks-count, if-count, compared-count}
 
 -- clauses one behind the other
 abbrev both : (vars : ℕ) (xs ys : List (List Lit)) → AreOf vars xs → AreOf vars ys → AreOf vars (xs ++ ys)

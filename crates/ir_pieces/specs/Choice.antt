@@ -1,7 +1,6 @@
 -- Which piece an operation has, over operands that are given by their variables.
-use Rattle.std.specs.Prelude.{◌≡◌, ℕ, ◌^◌, ◌<◌, ◌≤◌, Bool, true, false, not, ◌||◌, ◌&&◌, nat_lt, nat_le, if◌then◌else◌, ℤ, pos, List, [], ◌∷◌, map, slice_index_or, Option, Some, None}
+use Rattle.std.specs.Prelude.{◌≡◌, ℕ, ◌<◌, Bool, true, false, not, ◌||◌, ◌&&◌, nat_lt, nat_le, if◌then◌else◌, ℤ, pos, List, slice_index_or, Option, Some, None}
 use Rattle.std.specs.Option.{unwrap_or}
-use Rattle.std.specs.List.{AllByRecursion, AllZip}
 use Rattle.mix_system.specs.Row.{number_at}
 use Rattle.ll_tree.specs.declared.block.Operand.{Operand}
 use Rattle.ll_tree.specs.declared.block.Operand.TheVariants as operand
@@ -17,7 +16,6 @@ use Rattle.ll_tree.specs.Formed.{IsFormedOp}
 use Rattle.ll_rules.specs.Arithmetic.{is_linear, has_divisor}
 use Rattle.ll_item_rules.specs.Widths.{op_differs}
 use Rattle.ir_meaning.specs.declared.value.Val.{Val}
-use Rattle.ir_meaning.specs.declared.value.Val.TheVariants.{Poison}
 use Rattle.ir_meaning.specs.Value.{poison_if, on_number, select_of}
 use Rattle.ir_meaning.specs.Rows.{bin_of, cast_of, abs_of}
 use Rattle.ir_meaning.specs.Compare.{cmp_of}

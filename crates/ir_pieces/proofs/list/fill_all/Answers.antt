@@ -1,10 +1,10 @@
-use Rattle.std.proofs.Common.{◌≡◌, ◌+◌, ℤ, List, ◌∷◌, length, drop, sym, ap, ◌∙◌, subst}
+use Rattle.std.proofs.Common.{◌≡◌, ◌+◌, length, drop, sym, ap, ◌∙◌, subst}
 use Rattle.std.proofs.lemmas.List.{drop_all}
 use Rattle.wrap_rows.specs.Piece.{put_from}
 use Rattle.ir_pieces.specs.Pieces.{numbers}
 use Rattle.ir_pieces.proofs.SameLaws.{put-length}
 use Rattle.ir_pieces.proofs.FillLaws.{IsFilled, find_all, filled-none}
-use Rattle.ir_pieces.proofs.TurnLaws.{head, places_now, known_now, places_next, able_next, filled_now}
+use Rattle.ir_pieces.proofs.TurnLaws.{head, known_now, places_next, able_next, filled_now}
 use Rattle.ir_pieces.proofs.list.fill_all.Goals as goal
 
 pub loop-it-init : goal.loop-it-init
