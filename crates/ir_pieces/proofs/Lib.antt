@@ -1,0 +1,13 @@
+pub mod BoundLaws
+pub mod ChoiceLaws
+pub mod CountLaws
+pub mod FillLaws
+pub mod ListLaws
+pub mod NumberLaws
+pub mod OtherBounds
+pub mod PieceLaws
+pub mod RangeLaws
+pub mod SameLaws
+pub mod StandLaws
+pub mod TurnLaws
+pub mod WrapBounds

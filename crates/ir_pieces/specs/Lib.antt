@@ -1,0 +1,4 @@
+pub mod Bounded
+pub mod Choice
+pub mod Lists
+pub mod Pieces
