@@ -1,0 +1,5 @@
+mod GraphLaws
+mod MarkSums
+mod MemberLaws
+mod OnePathLaws
+mod TakenLaws

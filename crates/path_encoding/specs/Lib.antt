@@ -1,0 +1,6 @@
+pub mod Ends
+pub mod FlowRows
+pub mod PathLayout
+pub mod Paths
+pub mod Resolved
+pub mod Spots

@@ -1,0 +1,17 @@
+//! The part of a function's system by which points have one path: rows of flow, and the clauses of blocks,
+//! edges, cases, assumes and ends.
+#![tactic(auto)]
+
+mod block;
+mod exit;
+mod laws;
+mod lay;
+mod lits;
+mod rows;
+mod spots;
+mod switch;
+mod vars;
+
+pub use laws::a_point_has_one_path;
+pub use lay::lay;
+pub use spots::{ConstSpot, PathSpots};
