@@ -1,5 +1,13 @@
+mod CountLaws
 mod GraphLaws
+mod KnownLaws
+mod LayingLaws
+mod LeadLaws
 mod MarkSums
 mod MemberLaws
+mod NumberLaws
 mod OnePathLaws
+mod ResolvedLaws
+mod ReturnLaws
 mod TakenLaws
+mod TargetLaws

@@ -104,7 +104,7 @@ module _ (edges : List (PositionEdge × ℕ)) (blocks : ℕ) (visits : ℕ → �
   left : (at : ℕ) (edge : PositionEdge × ℕ) → Takes edge → edge.0.from.0 ≡ at → goes at ≡ true
   left at edge taken from = subst (λ (n : ℕ). goes n ≡ true) from (flows.forward edge taken.0).2
 
-  same_way : (at : ℕ) (edge other : PositionEdge × ℕ) → Takes edge → edge.0.from.0 ≡ at → Takes other → other.0.from.0 ≡ at → edge ≡ other
+  pub same_way : (at : ℕ) (edge other : PositionEdge × ℕ) → Takes edge → edge.0.from.0 ≡ at → Takes other → other.0.from.0 ≡ at → edge ≡ other
   same_way at edge other taken from other_taken other_from =
       let low : at < blocks = omega (arith, from, from_low edge taken.0) in
       let one : visits at ≡ pos 1 = subst (λ (n : ℕ). visits n ≡ pos 1) from (visits_from edge taken) in

@@ -70,7 +70,7 @@ module _ (it : SoundFunc) (sound : IsSound it) (spots : PathSpots) (are : AreSpo
       (in_map (out_row it spots) (filter goes (range_with_len 0 (length it.flow.order))) at (kept goes (range_with_len 0 (length it.flow.order)) at (counted 0 (length it.flow.order) at (omega arith) (omega (arith, low))) on))
 
   module _ (holds : Holds (path_layout it spots) point) where
-    abbrev Clause : List Lit → Type 0
+    abbrev pub Clause : List Lit → Type 0
     Clause = Clause_here (flow_rows it spots) point
 
     each : Each Clause (path_layout it spots).clauses
@@ -113,7 +113,7 @@ module _ (it : SoundFunc) (sound : IsSound it) (spots : PathSpots) (are : AreSpo
       out = λ at low on. sum_is at (filter (leaves at) (edge_vars it spots)) (out_row_there at low on);
     }
 
-    abbrev Goes : ℕ → List ℕ → Type 0
+    abbrev pub Goes : ℕ → List ℕ → Type 0
     Goes = Follows (edge_vars it spots) (length it.flow.order) visits takes goes flows
 
     chain_of : (at : ℕ) (rest : List ℕ) → Goes at rest → IsChain it.flow.edges at rest
@@ -150,7 +150,7 @@ module _ (it : SoundFunc) (sound : IsSound it) (spots : PathSpots) (are : AreSpo
         let edge : PositionEdge × ℕ = (record { from = record { 0 = at }; to = record { 0 = next } }, var) in
         ((edge, (there, steps edge there (inl (refl, refl))), refl, refl), follows_of next rest chain.1 ends (λ other other_there later. steps other other_there (inr later)))
 
-    all_follow : (path : List ℕ) → IsTaken it spots point path → (rest : List ℕ) × Goes 0 rest × (path ≡ 0 ∷ rest)
+    pub all_follow : (path : List ℕ) → IsTaken it spots point path → (rest : List ℕ) × Goes 0 rest × (path ≡ 0 ∷ rest)
     all_follow [] is = absurd is.is_path
     all_follow (first ∷ rest) is =
         let starts : first ≡ 0 = is.is_path.0 in

@@ -1,3 +1,4 @@
+pub mod Agree
 pub mod Ends
 pub mod FlowRows
 pub mod PathLayout

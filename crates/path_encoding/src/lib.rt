@@ -12,6 +12,6 @@ mod spots;
 mod switch;
 mod vars;
 
-pub use laws::a_point_has_one_path;
+pub use laws::{a_point_has_one_path, the_path_returns};
 pub use lay::lay;
 pub use spots::{ConstSpot, PathSpots};
