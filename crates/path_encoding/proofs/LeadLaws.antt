@@ -104,18 +104,18 @@ module _ (it : SoundFunc) (spots : PathSpots) (rows : List (List Part)) (point :
       pub only_one : (label : List ℕ) → Contains targets label → OnEdge label → label ≡ next
       pub one_place : (label other : List ℕ) → Contains targets label → Contains targets other → place_with it.func label ≡ place_with it.func other → label ≡ other
 
-    case_label : Case → List ℕ
+    abbrev case_label : Case → List ℕ
     case_label case = case.to
 
     -- the case's variable is 0 where the number isn't its own
     not_one : (value n var number : ℕ) → eqb value n ≡ false → number_at point number ≡ pos n → Says (is_off var ∷ at_most (Var number) (pos value) ∷ []) → Says (is_off var ∷ at_least (Var number) (pos value) ∷ []) → number_at point var ≤ℤ pos 0
-    not_one value n var number no is first second =
+    not_one value n var number other is first second =
         ⊎_elim (λ low. low)
         (λ below. ⊎_elim (λ low. low)
         (λ above.
         let most : n ≤ value = omega (arith, ints, is, only below) in
         let least : value ≤ n = omega (arith, ints, is, only above) in
-        absurd (true≢false (sym ((Decides-eqb value n).1 (omega (arith, most, least))) ∙ no)))
+        absurd (true≢false (sym ((Decides-eqb value n).1 (omega (arith, most, least))) ∙ other)))
         second)
         first
 
@@ -135,7 +135,7 @@ module _ (it : SoundFunc) (spots : PathSpots) (rows : List (List Part)) (point :
         let taken = only (without_first (without_first each.1.1.1.0 (λ low. omega (arith, ints, on, low))) (λ low. omega (arith, ints, high, low))) in
         by_case case (in_here case cases) taken)
         (λ no.
-        let low = not_one case.value n var no is each.0 each.1.0 in
+        let low = not_one case.value n var number no is each.0 each.1.0 in
         chosen number n is default next cases vars (omega (arith, few)) each.1.1.1.1 (without_first some (λ high. omega (arith, ints, low, high))) by_default (λ other there. by_case other (in_there case other cases there)))
 
     agrees_with : (width : ℕ) (operand : Operand) (parts : List Operands) → AllAgree it spots point vals (Use operand width ∷ parts) → Agrees it spots point vals width operand

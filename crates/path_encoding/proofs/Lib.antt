@@ -1,4 +1,6 @@
+mod CaseDiffer
 mod CountLaws
+mod FillLaws
 mod GraphLaws
 mod KnownLaws
 mod LayingLaws
@@ -9,5 +11,6 @@ mod NumberLaws
 mod OnePathLaws
 mod ResolvedLaws
 mod ReturnLaws
+mod StepsLaws
 mod TakenLaws
 mod TargetLaws

@@ -5,6 +5,8 @@ use Rattle.std.specs.Ordering.{int_eq}
 use Rattle.std.proofs.lemmas.Bool.{true≢false, cond_both}
 use Rattle.std.proofs.lemmas.Bool.Decides.{nat_tests, Decides-eqb, Decides-int_eq}
 use Rattle.std.proofs.lemmas.Int.{ints, by_lt_z}
+use Rattle.mix_system.specs.declared.literal.Term.TheVariants.{Var}
+use Rattle.mix_system.specs.declared.literal.Lit.{Lit}
 use Rattle.mix_system.specs.declared.row.Part.{Part}
 use Rattle.mix_system.specs.Row.{number_at}
 use Rattle.ll_tree.specs.declared.func.Range.{Range}
@@ -13,10 +15,11 @@ use Rattle.ir_meaning.specs.declared.value.Val.TheVariants.{Poison, Num}
 use Rattle.ir_meaning.specs.Value.{poison_if}
 use Rattle.ir_runs.specs.Values.{is_between, is_in_range, ranged}
 use Rattle.wrap_rows.specs.declared.vars.ValueVars.{ValueVars}
+use Rattle.wrap_rows.specs.Layout.{at_most, at_least}
 use Rattle.wrap_rows.specs.Vars.{IsMark, IsValue, value_at, is_marked}
 use Rattle.wrap_rows.proofs.CaseLaws.{Each, by_test, without_first, only}
 use Rattle.wrap_rows.proofs.BlockLaws.{mark_cases, Clause_here}
-use Rattle.path_encoding.specs.Ends.{ranged_clauses}
+use Rattle.path_encoding.specs.Ends.{is_off, ranged_clauses}
 
 -- a number that isn't negative
 pub size_of : (x : ℤ) → pos 0 ≤ℤ x → x ≡ pos (unsigned_abs x)
@@ -48,12 +51,19 @@ module _ (value : ValueVars) (point : List ℤ) where
 
 -- ---- ranges
 
+-- the clause of a range that wraps, and those of one that doesn't
+abbrev wrapping : ℕ → ValueVars → Range → List (List Lit)
+wrapping block value range = (is_off block ∷ at_least (Var value.number) (pos range.lo) ∷ at_most (Var value.number) (pos range.hi -ℤ pos 1) ∷ []) ∷ []
+
+abbrev rising : ℕ → ValueVars → Range → List (List Lit)
+rising block value range = (is_off block ∷ at_least (Var value.number) (pos range.lo) ∷ []) ∷ (is_off block ∷ at_most (Var value.number) (pos range.hi -ℤ pos 1) ∷ []) ∷ []
+
 module _ (rows : List (List Part)) (point : List ℤ) (block : ℕ) (value : ValueVars) (n : ℕ) (is : number_at point value.number ≡ pos n) where
   -- a visited block's value lies in the range where the clauses are true
   pub ranged_said : (range : Option Range) → pos 1 ≤ℤ number_at point block → Each (Clause_here rows point) (ranged_clauses block value range) → is_in_range range n ≡ true
   ranged_said None on each = refl
   ranged_said (Some range) on each =
-      by_test (λ (test : Bool). Each (Clause_here rows point) (cond test _ _) → cond test (leb range.lo n || ltb n range.hi) (leb range.lo n && ltb n range.hi) ≡ true) (ltb range.hi range.lo)
+      by_test (λ (test : Bool). Each (Clause_here rows point) (cond test (wrapping block value range) (rising block value range)) → cond test (leb range.lo n || ltb n range.hi) (leb range.lo n && ltb n range.hi) ≡ true) (ltb range.hi range.lo)
       (λ wraps said. ⊎_elim (λ low. let above : range.lo ≤ n = omega (arith, ints, is, low) in grind (arith, nat_tests))
       (λ rest. let below : n < range.hi = omega (arith, ints, is, only rest) in grind (arith, nat_tests))
       (without_first said.0 (λ off. omega (arith, ints, on, off))))
@@ -66,18 +76,18 @@ module _ (rows : List (List Part)) (point : List ℤ) (block : ℕ) (value : Val
       each
 
   or_parts : (a b : Bool) → (a || b) ≡ true → (a ≡ true) ⊎ (b ≡ true)
-  or_parts true b yes = inl refl
-  or_parts false b yes = inr yes
+  or_parts true b passes = inl refl
+  or_parts false b passes = inr passes
 
   and_parts : (a b : Bool) → (a && b) ≡ true → (a ≡ true) × (b ≡ true)
-  and_parts true b yes = (refl, yes)
-  and_parts false b yes = absurd (true≢false (sym yes))
+  and_parts true b passes = (refl, passes)
+  and_parts false b passes = absurd (true≢false (sym passes))
 
   -- and the clauses are true where it does
   pub ranged_true : (range : Option Range) → is_in_range range n ≡ true → Each (Clause_here rows point) (ranged_clauses block value range)
   ranged_true None inside = tt
   ranged_true (Some range) inside =
-      by_test (λ (test : Bool). cond test (leb range.lo n || ltb n range.hi) (leb range.lo n && ltb n range.hi) ≡ true → Each (Clause_here rows point) (cond test _ _)) (ltb range.hi range.lo)
+      by_test (λ (test : Bool). cond test (leb range.lo n || ltb n range.hi) (leb range.lo n && ltb n range.hi) ≡ true → Each (Clause_here rows point) (cond test (wrapping block value range) (rising block value range))) (ltb range.hi range.lo)
       (λ wraps yes. (
         inr (⊎_elim (λ low. let above : range.lo ≤ n = grind (arith, nat_tests) in inl (omega (arith, ints, is, above)))
             (λ high. let below : n < range.hi = grind (arith, nat_tests) in inr (inl (omega (arith, ints, is, below))))

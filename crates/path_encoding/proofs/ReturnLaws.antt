@@ -1,5 +1,5 @@
 -- Values lead along the path that a point takes, block by block.
-use Rattle.std.proofs.Common.{◌≡◌, ◌<◌, ◌≤◌, ℕ, ℤ, pos, ◌≤ℤ◌, true, false, cond, List, [], ◌∷◌, ◌++◌, length, map, Option, Some, None, refl, sym, ◌∙◌, ap, subst, arith}
+use Rattle.std.proofs.Common.{◌≡◌, ◌<◌, ◌≤◌, ℕ, ℤ, pos, ◌≤ℤ◌, true, false, cond, List, [], ◌∷◌, ◌++◌, length, drop, map, Option, Some, None, refl, sym, ◌∙◌, ap, subst, arith}
 use Rattle.std.specs.Prelude.{zip, flat_map}
 use Rattle.std.specs.List.{All, Contains, list_all, range_with_len}
 use Rattle.std.proofs.lemmas.Int.{ints}
@@ -29,7 +29,7 @@ use Rattle.path_encoding.specs.Paths.{IsTaken, AreMarks}
 use Rattle.path_encoding.specs.Agree.{AgreesIn, AgreesOn, IsGiven, AgreesWith, blocks_on, ReturnsOn}
 use Rattle.path_encoding.proofs.CountLaws.{cases_few}
 use Rattle.path_encoding.proofs.GraphLaws.{counted}
-use Rattle.path_encoding.proofs.LeadLaws.{IsNext, OnEdge, assumes_hold, leads_to, returns_there, none_barred}
+use Rattle.path_encoding.proofs.LeadLaws.{IsNext, assumes_hold, leads_to, returns_there, none_barred}
 use Rattle.path_encoding.proofs.OnePathLaws.{Takes, same_way, visits_to}
 use Rattle.path_encoding.proofs.TakenLaws.{each_of, visits, takes, goes, take_marks, start_true, visits_true, Clause, flows, Goes, all_follow}
 use Rattle.path_encoding.proofs.TargetLaws.{IsTarget, target, one_target, led_to}
@@ -62,7 +62,7 @@ module _ (it : SoundFunc) (sound : IsSound it) (spots : PathSpots) (are : AreSpo
     value_count : length it.func.params ≤ length spots.values.items
     value_count =
         let parts = length-append (map (λ (param : Param). (param.name, param.width)) it.func.params) (flat_map block_values it.func.blocks) in
-        let params = length-map it.func.params (λ (param : Param). (param.name, param.width)) in
+        let params = length-map {B = List ℕ × ℕ} it.func.params (λ (param : Param). (param.name, param.width)) in
         omega (arith, are.values, parts, params)
 
     not_barred : has_poison_argument it.func args ≡ false

@@ -5,7 +5,7 @@
 mod block;
 mod exit;
 mod laws;
-mod lay;
+mod laying;
 mod lits;
 mod rows;
 mod spots;
@@ -13,5 +13,5 @@ mod switch;
 mod vars;
 
 pub use laws::{a_point_has_one_path, the_path_returns};
-pub use lay::lay;
+pub use laying::lay;
 pub use spots::{ConstSpot, PathSpots};

@@ -4,7 +4,7 @@ use Rattle.std.specs.List.{range_with_len}
 use Rattle.wrap_rows.specs.Normal.{clause_of}
 use Rattle.path_encoding.specs.Spots.{cases_before}
 use Rattle.path_encoding.specs.Ends.{block_clauses}
-use Rattle.path_encoding.proofs.lay.add_visits.Given as goal
+use Rattle.path_encoding.proofs.laying.add_visits.Given as goal
 
 abbrev pub invariant-loop-at : goal.invariant-loop-at
 invariant-loop-at l = record {

@@ -4,7 +4,7 @@ use Rattle.wrap_rows.specs.Normal.{clause_of}
 use Rattle.path_encoding.specs.Spots.{block_var}
 use Rattle.path_encoding.specs.Ends.{is_on}
 use Rattle.path_encoding.specs.PathLayout.{strict_clauses}
-use Rattle.path_encoding.proofs.lay.add_start.Given as goal
+use Rattle.path_encoding.proofs.laying.add_start.Given as goal
 
 abbrev pub invariant-loop-item : goal.invariant-loop-item
 invariant-loop-item l =
