@@ -49,16 +49,16 @@ module _ (vars : ℕ) where
   abbrev IsKnown : ValueVars → Type 0
   IsKnown value = (value.number < vars) × (value.mark < vars)
 
-  found_known : {K : Type 0} (test : K → Bool) (pairs : List (K × ℕ)) → 0 < vars → Each (λ pair. pair.1 < vars) pairs → unwrap_or (lookup test pairs) 0 < vars
+  found_known : {K : Type 0} (test : K → Bool) (pairs : List (K × ℕ)) → 0 < vars → Each {X = K × ℕ} (λ pair. pair.1 < vars) pairs → unwrap_or (lookup test pairs) 0 < vars
   found_known test [] some each = some
   found_known test (pair ∷ pairs) some each =
       cond_both (test pair.0) (Some pair.1) (lookup test pairs) (λ found. unwrap_or found 0 < vars) (λ _. each.0) (λ _. found_known test pairs some each.1)
 
-  spots_known : (constants : List ConstSpot) → Each (λ spot. spot.var < vars) constants → Each (λ pair. pair.1 < vars) (map (λ (spot : ConstSpot). (spot.value, spot.var)) constants)
+  spots_known : (constants : List ConstSpot) → Each {X = ConstSpot} (λ spot. spot.var < vars) constants → Each {X = ℕ × ℕ} (λ pair. pair.1 < vars) (map (λ (spot : ConstSpot). (spot.value, spot.var)) constants)
   spots_known [] each = tt
   spots_known (spot ∷ constants) each = (each.0, spots_known constants each.1)
 
-  constant_known : (constants : List ConstSpot) (n : ℕ) → 2 ≤ vars → Each (λ spot. spot.var < vars) constants → constant_var constants n < vars
+  constant_known : (constants : List ConstSpot) (n : ℕ) → 2 ≤ vars → Each {X = ConstSpot} (λ spot. spot.var < vars) constants → constant_var constants n < vars
   constant_known constants n some each =
       cond_both (leb n 1) n (constant_among constants n) (λ (var : ℕ). var < vars) (λ few. grind (arith, nat_tests))
       (λ _. found_known (λ value. eqb value n) (map (λ (spot : ConstSpot). (spot.value, spot.var)) constants) (omega (arith, some)) (spots_known constants each))
@@ -70,7 +70,7 @@ module _ (vars : ℕ) where
       (constant_known spots.constants.items n exist.numbers (Each-from_All (λ (spot : ConstSpot). spot.var < vars) spots.constants.items exist.constants), omega (arith, exist.numbers))
   source_known spots source.Poison exist = (omega (arith, exist.numbers), omega (arith, exist.numbers))
 
-  pairs_known : {K : Type 0} (keys : List K) (known : List ℕ) → Each (λ var. var < vars) known → Each (λ pair. pair.1 < vars) (zip keys known)
+  pairs_known : {K : Type 0} (keys : List K) (known : List ℕ) → Each (λ var. var < vars) known → Each {X = K × ℕ} (λ pair. pair.1 < vars) (zip keys known)
   pairs_known [] known each = tt
   pairs_known (key ∷ keys) [] each = tt
   pairs_known (key ∷ keys) (var ∷ known) each = (each.0, pairs_known keys known each.1)

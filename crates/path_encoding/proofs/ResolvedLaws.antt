@@ -1,7 +1,8 @@
 -- The clauses over numbers are those over names.
-use Rattle.std.proofs.Common.{◌≡◌, ◌<◌, ◌≤◌, ◌+◌, ℕ, zero, suc, List, [], ◌∷◌, ◌++◌, length, get_or, map, take, drop, Option, Some, None, option_map, refl, sym, ◌∙◌, ap, subst, arith}
+use Rattle.std.proofs.Common.{◌≡◌, ◌<◌, ◌≤◌, ◌+◌, ◌^◌, ℕ, zero, suc, List, [], ◌∷◌, ◌++◌, length, get_or, map, take, drop, Bool, true, false, Option, Some, None, option_map, refl, sym, ◌∙◌, ap, subst, arith}
 use Rattle.std.specs.Prelude.{flat_map, zip}
 use Rattle.std.specs.Option.{unwrap_or}
+use Rattle.std.proofs.lemmas.List.Sums.{get_or-le-sum_by}
 use Rattle.std.proofs.lemmas.List.{length-map, length-append, get_or-map, get_or_default}
 use Rattle.mix_system.specs.declared.literal.Lit.{Lit}
 use Rattle.ll_tree.specs.declared.func.Func.{Func}
@@ -17,13 +18,14 @@ use Rattle.name_table.specs.Names.{place_of}
 use Rattle.flow_rules.proofs.OrderLaws.{places_within}
 use Rattle.ll_links.specs.declared.link.BlockId.{BlockId}
 use Rattle.ll_links.specs.declared.link.Source.{Source}
+use Rattle.ll_links.specs.declared.link.Source.TheVariants as source
 use Rattle.ll_links.specs.Links.{block_id, block_of, source_of, op_operands, end_operands}
 use Rattle.ll_links.specs.Items.{items_at}
 use Rattle.ll_verifier.specs.Sound.{SoundFunc, IsSound}
 use Rattle.portion_cuts.specs.Paths.{place_at}
 use Rattle.path_encoding.specs.declared.spots.PathSpots.{PathSpots}
-use Rattle.path_encoding.specs.Spots.{source_at, source_vars, block_at, block_var, no_block, place_with, cases_of, IsBlock}
-use Rattle.path_encoding.specs.Ends.{is_on, assumed, assume_clauses, each_case, switch_clauses, end_clauses, default_clause}
+use Rattle.path_encoding.specs.Spots.{source_at, source_vars, block_at, block_var, no_block, place_with, edge_to, cases_of, IsBlock}
+use Rattle.path_encoding.specs.Ends.{is_on, not_poison, assumed, assume_clauses, each_case, switch_clauses, end_clauses, default_clause}
 use Rattle.path_encoding.specs.Resolved.{is_assume, first_of, places, case_to, switch_to, end_to}
 
 -- ---- numbers that are all there
@@ -31,11 +33,11 @@ use Rattle.path_encoding.specs.Resolved.{is_assume, first_of, places, case_to, s
 pub sources_known : (func : Func) (sources : List Source) (values : List Operand) → map Some sources ≡ map (source_of (values_of func)) values → sources ≡ map (source_at func) values
 sources_known func [] [] same = refl
 sources_known func [] (value ∷ values) same = absurd (cc same)
-sources_known func (source ∷ sources) [] same = absurd (cc same)
-sources_known func (source ∷ sources) (value ∷ values) same =
-    let here : Some source ≡ source_of (values_of func) value = ap (λ (l : List (Option Source)). get_or l 0 None) same in
+sources_known func (first ∷ sources) [] same = absurd (cc same)
+sources_known func (first ∷ sources) (value ∷ values) same =
+    let here : Some first ≡ source_of (values_of func) value = ap (λ (l : List (Option Source)). get_or l 0 None) same in
     let rest = sources_known func sources values (ap (drop 1) same) in
-    λ i. ap (λ (found : Option Source). unwrap_or found source) here i ∷ rest i
+    λ i. ap (λ (found : Option Source). unwrap_or found source.Poison) here i ∷ rest i
 
 abbrev block_number : Option BlockId → ℕ
 block_number None = 0
@@ -56,21 +58,18 @@ places_known func (block ∷ blocks) (label ∷ labels) same =
 
 -- ---- the block at a position
 
-module _ (it : SoundFunc) (sound : IsSound it) (at : ℕ) (block : Block) (is : IsBlock it at block) where
-  pub place_low : place_at it at < length it.func.blocks
-  place_low = places_within (length it.func.blocks) it.flow.graph it.flow.order sound.flow.flow.kept at 0 is.within
-
-  pub stands : get_or it.func.blocks (place_at it at) block ≡ block
-  stands = get_or_default it.func.blocks (place_at it at) block no_block place_low ∙ is.is
-
-  pub items_count : length (items_at it.func.blocks (place_at it at)) ≡ length block.phis + length block.body + 1
+module _ (it : SoundFunc) (at place : ℕ) (block : Block) (is : IsBlock it at place block) where
+  pub items_count : length (items_at it.func.blocks place) ≡ length block.phis + length block.body + 1
   items_count =
-      let items_are : items_at it.func.blocks (place_at it at) ≡ items_of block = get_or-map items_of it.func.blocks (place_at it at) block [] place_low ∙ ap items_of stands in
+      let items_are : items_at it.func.blocks place ≡ items_of block = get_or-map items_of it.func.blocks place block [] is.low ∙ ap items_of is.stands in
       let all = length-append (map OfPhi block.phis) (map OfInstr block.body ++ OfEnd block.end ∷ []) in
       let rest = length-append (map OfInstr block.body) (OfEnd block.end ∷ []) in
       let phis = length-map {B = Item} block.phis OfPhi in
       let body = length-map {B = Item} block.body OfInstr in
       ap length items_are ∙ omega (arith, all, rest, phis, body)
+
+  pub block_is : block_at it at ≡ block
+  block_is = ap (λ (n : ℕ). get_or it.func.blocks n no_block) (sym is.place_is) ∙ get_or_default it.func.blocks place no_block block is.low ∙ is.stands
 
 -- ---- assumes
 
@@ -125,3 +124,24 @@ pub case_ons : (cases : List Case) (vars : List ℕ) → length cases ≤ length
 case_ons [] vars few = refl
 case_ons (case ∷ cases) [] few = absurd (omega (arith, few))
 case_ons (case ∷ cases) (var ∷ vars) few = ap (λ (rest : List Lit). is_on var ∷ rest) (case_ons cases vars (omega (arith, few)))
+
+-- ---- positions and places
+
+module _ (it : SoundFunc) (sound : IsSound it) (at place : ℕ) (low : at < length it.flow.order) (is : place ≡ place_at it at) where
+  pub place_there : place < length it.func.blocks
+  place_there = subst (λ (n : ℕ). n < length it.func.blocks) (sym is) (places_within (length it.func.blocks) it.flow.graph it.flow.order sound.flow.flow.kept at 0 low)
+
+  pub block_there : (block : Block) → block ≡ get_or it.func.blocks place block → IsBlock it at place block
+  block_there block read = record {
+    within = low;
+    place_is = is;
+    low = place_there;
+    stands = sym read;
+    few = few_items;
+  }
+    where
+      few_items : length block.phis + length block.body < 2 ^ 31
+      few_items =
+          let one = get_or-le-sum_by (λ (block : Block). length block.phis + length block.body) it.func.blocks place block place_there in
+          let here : length (get_or it.func.blocks place block).phis + length (get_or it.func.blocks place block).body ≡ length block.phis + length block.body = ap (λ (block : Block). length block.phis + length block.body) (sym read) in
+          omega (arith, one, here, sound.rules.limits.values)

@@ -61,9 +61,7 @@ module _ (it : SoundFunc) (sound : IsSound it) (spots : PathSpots) (are : AreSpo
   module _ (args : List ℕ) (vals : Vals) (given : AgreesWith it spots point args) where
     value_count : length it.func.params ≤ length spots.values.items
     value_count =
-        let parts = length-append (map (λ (param : Param). (param.name, param.width)) it.func.params) (flat_map block_values it.func.blocks) in
-        let params = length-map {B = List ℕ × ℕ} it.func.params (λ (param : Param). (param.name, param.width)) in
-        omega (arith, are.values, parts, params)
+        are.params
 
     not_barred : has_poison_argument it.func args ≡ false
     not_barred =

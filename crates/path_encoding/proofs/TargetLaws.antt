@@ -64,7 +64,7 @@ pub record IsTarget (it : SoundFunc) (spots : PathSpots) (at : ℕ) (label : Lis
   pub block : label ≡ (block_at it edge.0.to.0).label
 
 module _ (it : SoundFunc) (sound : IsSound it) where
-  place_low : (at : ℕ) → at < length it.flow.order → place_at it at < length it.func.blocks
+  pub place_low : (at : ℕ) → at < length it.flow.order → place_at it at < length it.func.blocks
   place_low at low = places_within (length it.func.blocks) it.flow.graph it.flow.order sound.flow.flow.kept at 0 low
 
   pub label_is : (at : ℕ) → at < length it.flow.order → (block_at it at).label ≡ label_at it at

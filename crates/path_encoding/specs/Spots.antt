@@ -1,5 +1,5 @@
 -- Where blocks, edges, cases and values of a function lie in a system.
-use Rattle.std.specs.Prelude.{◌≡◌, ◌==◌, ◌&&◌, ◌<◌, ◌≤◌, ℕ, nat_le, if◌then◌else◌, List, [], length, map, zip, drop, All, sum_by, slice_index, slice_index_or}
+use Rattle.std.specs.Prelude.{◌≡◌, ◌==◌, ◌&&◌, ◌<◌, ◌≤◌, ◌+◌, ◌^◌, ℕ, Bool, nat_le, if◌then◌else◌, List, [], length, map, zip, drop, All, sum_by, slice_index, slice_index_or}
 use Rattle.std.specs.Option.{unwrap_or}
 use Rattle.std.specs.List.{range_with_len}
 use Rattle.std.specs.Map.{lookup}
@@ -67,10 +67,13 @@ edge_vars it spots = zip (map position_edge it.flow.edges) spots.edges.items
 abbrev pub place_with : Func → List ℕ → ℕ
 place_with func label = unwrap_or (place_of label (labels_of func)) 0
 
--- of some edges the variable of that from the block at a position to the block at a place
+-- the edge goes from the block at a position to the block at a place
+abbrev pub goes_to : List BlockId → (at place : ℕ) → PositionEdge → Bool
+goes_to order at place edge = edge.from.0 == at && (slice_index_or order edge.to.0 (block_id 0)).0 == place
+
+-- the variable of the first such edge
 abbrev pub edge_among : List BlockId → List (PositionEdge × ℕ) → (at place : ℕ) → ℕ
-edge_among order edges at place =
-    unwrap_or (lookup (λ edge. edge.from.0 == at && (slice_index_or order edge.to.0 (block_id 0)).0 == place) edges) 0
+edge_among order edges at place = unwrap_or (lookup (goes_to order at place) edges) 0
 
 -- the variable of the edge from the block at a position to the block at a place
 abbrev pub edge_to : SoundFunc → PathSpots → (at place : ℕ) → ℕ
@@ -94,19 +97,23 @@ cases_before it at = sum_by (λ other. length (cases_of (block_at it other).end)
 abbrev pub case_vars : SoundFunc → PathSpots → ℕ → List (Case × ℕ)
 case_vars it spots at = zip (cases_of (block_at it at).end) (drop (cases_before it at) spots.cases.items)
 
--- the block stands at a position
-pub record IsBlock (it : SoundFunc) (at : ℕ) (block : Block) : Type 0 where
+-- the block at a position, and its place in the file
+pub record IsBlock (it : SoundFunc) (at place : ℕ) (block : Block) : Type 0 where
   pub within : at < length it.flow.order
-  pub is : block_at it at ≡ block
+  pub place_is : place ≡ place_at it at
+  pub low : place < length it.func.blocks
+  pub stands : slice_index_or it.func.blocks place block ≡ block
+  pub few : length block.phis + length block.body < 2 ^ 31
 
 -- ---- all spots
 
--- A spot for each block by its position, for each edge, for each case by its block and as written, and for each value by its number.
+-- A spot for each block by its position, for each edge, for each case by its block and as written, and for each parameter;
+-- a value's spot stands by the value's number.
 pub record AreSpotsOf (it : SoundFunc) (spots : PathSpots) : Type 0 where
   pub blocks : length spots.blocks.items ≡ length it.flow.order
   pub edges : length spots.edges.items ≡ length it.flow.edges
   pub cases : length spots.cases.items ≡ cases_before it (length it.flow.order)
-  pub values : length spots.values.items ≡ length (values_of it.func)
+  pub params : length it.func.params ≤ length spots.values.items
 
 -- There are so many variables, those of the numbers 0 and 1 among them.
 pub record Exist (vars : ℕ) (spots : PathSpots) : Type 0 where

@@ -8,6 +8,7 @@ use crate::PathSpots;
 use crate::exit::add_end;
 use crate::lits::{add_not_poison, is_off, is_on};
 use crate::vars::{first_of, source_vars};
+use ll_links::{BlockId, items_of_a_block};
 use ll_tree::{Block, Op};
 use ll_verifier::Sound;
 use mix_system::System;
@@ -24,13 +25,14 @@ pub fn add_block(
     sound: &Sound,
     spots: &PathSpots,
     at: u32,
+    place: BlockId,
     block: &Block,
     cases: &[u32],
     into: &mut System,
 ) -> Result<(), NoMemory>
     requires spots { AreSpotsOf sound.now spots.now }
     requires known { Exist (length into.old.ranges) spots.now }
-    requires at { IsBlock sound.now at block.now }
+    requires at { IsBlock sound.now at place.0 block.now }
     requires each { length (cases_of block.now.end) ≤ length cases.now }
     requires cases { All (λ var. var < length into.old.ranges) cases.now }
     requires room { length into.old.clauses
@@ -44,8 +46,9 @@ pub fn add_block(
           (zip (cases_of block.now.end) cases.now) block.now.end);
     }) }
 {
-    add_assumes(alloc, sound, spots, at, block, into)?;
-    add_end(alloc, sound, spots, at, block, cases, into)
+    add_assumes(alloc, sound, spots, at, place, block, into)?;
+    add_end(alloc, sound, spots, at, place, block, cases, into)?;
+    Ok(())
 }
 
 // The clauses of a block's assumes, in order.
@@ -54,12 +57,13 @@ fn add_assumes(
     sound: &Sound,
     spots: &PathSpots,
     at: u32,
+    place: BlockId,
     block: &Block,
     into: &mut System,
 ) -> Result<(), NoMemory>
     requires spots { AreSpotsOf sound.now spots.now }
     requires known { Exist (length into.old.ranges) spots.now }
-    requires at { IsBlock sound.now at block.now }
+    requires at { IsBlock sound.now at place.0 block.now }
     requires room { length into.old.clauses + length
         (spec.assumes_at sound.now spots.now at block.now.body) < 2 ^ 31 }
     ensures { OnOk result (into.new ≡ record into.old {
@@ -67,16 +71,17 @@ fn add_assumes(
           ++ map clause_of (spec.assumes_at sound.now spots.now at block.now.body);
     }) }
 {
+    items_of_a_block();
     let var = spots.blocks[at as usize];
-    let place = sound.order()[at as usize];
-    let first = block.phis.len() as u32;
+    let phis = block.phis.len() as u32;
     let body = block.body.items();
     for (item, instr) in body.iter().enumerate() {
         if !is_assume(&instr.op) {
             continue;
         }
-        let links = sound.links(place, first + item as u32);
-        let value = source_vars(spots, first_of(links.sources));
+        let links = sound.links(place, phis + item as u32);
+        let first = first_of(links.sources);
+        let value = source_vars(spots, first);
         add_assumed(alloc, var, value, into)?;
     }
     Ok(())

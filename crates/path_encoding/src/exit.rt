@@ -10,7 +10,7 @@ use crate::PathSpots;
 use crate::lits::{add_not_poison, is_off, is_on};
 use crate::switch::add_switch;
 use crate::vars::{block_named, edge_to, first_of, source_vars};
-use ll_links::{BlockId, Links};
+use ll_links::{BlockId, Links, items_of_a_block};
 use ll_tree::{Block, End, Range};
 use ll_verifier::Sound;
 use mix_system::{System, Term};
@@ -26,13 +26,14 @@ pub fn add_end(
     sound: &Sound,
     spots: &PathSpots,
     at: u32,
+    place: BlockId,
     block: &Block,
     cases: &[u32],
     into: &mut System,
 ) -> Result<(), NoMemory>
     requires spots { AreSpotsOf sound.now spots.now }
     requires known { Exist (length into.old.ranges) spots.now }
-    requires at { IsBlock sound.now at block.now }
+    requires at { IsBlock sound.now at place.0 block.now }
     requires each { length (cases_of block.now.end) ≤ length cases.now }
     requires cases { All (λ var. var < length into.old.ranges) cases.now }
     requires room { length into.old.clauses + length (spec.end_clauses sound.now spots.now at
@@ -42,7 +43,7 @@ pub fn add_end(
           (zip (cases_of block.now.end) cases.now) block.now.end);
     }) }
 {
-    let links = end_links(sound, at, block);
+    let links = end_links(sound, at, place, block);
     let value = source_vars(spots, first_of(links.sources));
     let leaving = Leaving { at, value };
     add_exit(
@@ -58,15 +59,16 @@ pub fn add_end(
 }
 
 // What the terminator of a block names.
-fn end_links<'a>(sound: &'a Sound, at: u32, block: &Block) -> Links<'a>
-    requires { IsBlock sound.now at block.now }
+fn end_links<'a>(sound: &'a Sound, at: u32, place: BlockId, block: &Block) -> Links<'a>
+    requires { IsBlock sound.now at place.0 block.now }
     ensures sources { result.sources.now
         ≡ map (source_at sound.now.func) (end_operands block.now.end) }
     ensures targets { places result.blocks.now
         ≡ map (place_with sound.now.func) (targets_of block.now.end) }
 {
+    items_of_a_block();
     let item = block.phis.len() as u32 + block.body.len() as u32;
-    sound.links(sound.order()[at as usize], item)
+    sound.links(place, item)
 }
 
 /// A position, and what the terminator of its block is asked.
@@ -155,7 +157,8 @@ fn add_ranged(
 ) -> Result<(), NoMemory>
     requires block { block < length into.old.ranges }
     requires number { value.number < length into.old.ranges }
-    requires room { length into.old.clauses + 2 < 2 ^ 31 }
+    requires room { length into.old.clauses
+        + length (spec.ranged_clauses block value (Some range)) < 2 ^ 31 }
     ensures { OnOk result (into.new ≡ record into.old {
       clauses = into.old.clauses ++ map clause_of (spec.ranged_clauses block value (Some range));
     }) }
@@ -197,14 +200,37 @@ fn add_fork(
     let on_one = block_named(targets, 0);
     let on_zero = block_named(targets, 1);
     let block = spots.blocks[leaving.at as usize];
-    add_not_poison(alloc, block, leaving.value, into)?;
     let one = edge_to(sound, spots, leaving.at, on_one);
     let zero = edge_to(sound, spots, leaving.at, on_zero);
-    if on_one.0 == on_zero.0 {
+    add_not_poison(alloc, block, leaving.value, into)?;
+    let same = on_one.0 == on_zero.0;
+    add_branch(alloc, same, block, leaving.value.number, one, zero, into)
+}
+
+fn add_branch(
+    alloc: Global,
+    same: bool,
+    block: u32,
+    number: u32,
+    on_one: u32,
+    on_zero: u32,
+    into: &mut System,
+) -> Result<(), NoMemory>
+    requires block { block < length into.old.ranges }
+    requires number { number < length into.old.ranges }
+    requires on_one { on_one < length into.old.ranges }
+    requires on_zero { on_zero < length into.old.ranges }
+    requires room { length into.old.clauses
+        + length (spec.branch_clauses same block number on_one on_zero) < 2 ^ 31 }
+    ensures { OnOk result (into.new ≡ record into.old {
+      clauses = into.old.clauses
+          ++ map clause_of (spec.branch_clauses same block number on_one on_zero);
+    }) }
+{
+    if same {
         return Ok(());
     }
     let off = is_off(block);
-    let number = leaving.value.number;
-    add_lits(alloc, into, &[off, is_off(number), is_on(one)])?;
-    add_lits(alloc, into, &[off, is_on(number), is_on(zero)])
+    add_lits(alloc, into, &[off, is_off(number), is_on(on_one)])?;
+    add_lits(alloc, into, &[off, is_on(number), is_on(on_zero)])
 }

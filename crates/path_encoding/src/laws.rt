@@ -8,7 +8,7 @@ ghost use Rattle.path_encoding.specs.declared.spots.PathSpots.{PathSpots};
 ghost use Rattle.path_encoding.specs.Spots.{AreSpotsOf};
 ghost use Rattle.path_encoding.specs.PathLayout.{path_layout};
 ghost use Rattle.path_encoding.specs.Paths.{IsTaken, AreMarks};
-ghost use Rattle.path_encoding.specs.Agree.{AgreesWith, AgreesOn, ReturnsOn};
+ghost use Rattle.path_encoding.specs.Agree.{AgreesWith, AgreesOn, AreCasesSaid, ReturnsOn};
 
 /// Where blocks and edges are 0 or 1 and the layout of paths holds, a point takes exactly one path from the entry
 /// to an end: its blocks and its edges are those that are 1, and no others.
@@ -28,4 +28,16 @@ pub fn the_path_returns()
         → (args : List ℕ) (vals : Vals)
         → AgreesWith it spots point args → AgreesOn it spots point vals path
         → ReturnsOn it args vals path }
+{}
+
+/// The path of values that return makes the layout of paths hold at a point that says what they are: its blocks and
+/// edges are 1 and no others, a case is 1 exactly where its switch has its number, and the variables of what
+/// the path asks have its values.
+pub fn a_path_that_returns_makes_it_hold()
+    ensures { (it : SoundFunc) (spots : PathSpots) (point : List ℤ) → IsSound it
+        → AreSpotsOf it spots → AreMarks spots point → AreCasesSaid it spots point
+        → (path : List ℕ) → IsTaken it spots point path
+        → (args : List ℕ) (vals : Vals)
+        → AgreesWith it spots point args → AgreesOn it spots point vals path
+        → ReturnsOn it args vals path → Holds (path_layout it spots) point }
 {}

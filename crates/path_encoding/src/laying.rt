@@ -1,18 +1,18 @@
-ghost use Rattle.std.specs.Prelude.{◌≡◌, ◌+◌, ◌*◌, ◌^◌, ◌<◌, ◌≤◌, ◌++◌, map, length, true, OnOk};
+ghost use Rattle.std.specs.Prelude.{◌≡◌, ◌+◌, ◌*◌, ◌^◌, ◌<◌, ◌≤◌, ◌++◌, map, flat_map, zip, length, true, All, OnOk};
 ghost use Rattle.wrap_rows.specs.Normal.{clause_of};
 ghost use Rattle.wrap_rows.specs.Piece.{Lays, names_own_rows};
 ghost use Rattle.path_encoding.specs.Spots.{AreSpotsOf, Exist, cases_of};
-ghost use Rattle.path_encoding.specs.PathLayout.{start_clauses, visit_clauses, path_layout};
+ghost use Rattle.path_encoding.specs.PathLayout.{strict_clauses, start_clauses, visit_clauses, path_layout};
 
 use crate::PathSpots;
 use crate::block::add_block;
 use crate::lits::{is_off, is_on};
 use crate::rows::{add_flow_clauses, add_in_rows, add_out_rows};
-use ll_tree::End;
+use ll_tree::{End, Param};
 use ll_verifier::Sound;
 use mix_system::System;
 use std::alloc::Global;
-use wrap_rows::add_lits;
+use wrap_rows::{ValueVars, add_lits};
 use wx_base::NoMemory;
 
 /// Adds the rows of flow and the clauses of the function's paths. The spots are the function's, and their
@@ -34,11 +34,13 @@ pub fn lay(
     ensures own_rows { names_own_rows (path_layout sound.now spots.now) ≡ true }
 {
     let first = into.rows();
-    add_in_rows(alloc, sound, spots, into)?;
+    let blocks = sound.order().len() as u32;
+    add_in_rows(alloc, sound, spots, blocks, into)?;
     add_out_rows(alloc, sound, spots, into)?;
     add_start(alloc, sound, spots, into)?;
     add_flow_clauses(alloc, first, into)?;
-    add_visits(alloc, sound, spots, into)
+    add_visits(alloc, sound, spots, into)?;
+    Ok(())
 }
 
 // The entry is visited, and no strict parameter's argument is poison.
@@ -50,6 +52,7 @@ fn add_start(
 ) -> Result<(), NoMemory>
     requires spots { AreSpotsOf sound.now spots.now }
     requires known { Exist (length into.old.ranges) spots.now }
+    requires some { 0 < length sound.now.flow.order }
     requires room { length into.old.clauses
         + length (start_clauses sound.now spots.now) < 2 ^ 31 }
     ensures { OnOk result (into.new ≡ record into.old {
@@ -59,11 +62,32 @@ fn add_start(
     let entry = spots.blocks[0];
     add_lits(alloc, into, &[is_on(entry)])?;
     let params = sound.func().params.items();
+    let values = spots.values.as_slice();
+    add_strict(alloc, params, values, into)?;
+    Ok(())
+}
+
+// The argument of a strict parameter isn't poison.
+fn add_strict(
+    alloc: Global,
+    params: &[Param],
+    values: &[ValueVars],
+    into: &mut System,
+) -> Result<(), NoMemory>
+    requires each { length params.now ≤ length values.now }
+    requires known { All (λ value. value.mark < length into.old.ranges) values.now }
+    requires room { length into.old.clauses
+        + length (flat_map strict_clauses (zip params.now values.now)) < 2 ^ 31 }
+    ensures { OnOk result (into.new ≡ record into.old {
+      clauses = into.old.clauses
+          ++ map clause_of (flat_map strict_clauses (zip params.now values.now));
+    }) }
+{
     for (item, param) in params.iter().enumerate() {
         if !param.strict {
             continue;
         }
-        let mark = spots.values[item].mark;
+        let mark = values[item].mark;
         add_lits(alloc, into, &[is_off(mark)])?;
     }
     Ok(())
@@ -89,7 +113,7 @@ fn add_visits(
     for (at, place) in sound.order().iter().enumerate() {
         let block = &blocks[place.0 as usize];
         let cases = spots.cases.split_at(before).1;
-        add_block(alloc, sound, spots, at as u32, block, cases, into)?;
+        add_block(alloc, sound, spots, at as u32, *place, block, cases, into)?;
         before += case_count(&block.end);
     }
     Ok(())

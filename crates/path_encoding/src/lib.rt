@@ -12,6 +12,6 @@ mod spots;
 mod switch;
 mod vars;
 
-pub use laws::{a_point_has_one_path, the_path_returns};
+pub use laws::{a_path_that_returns_makes_it_hold, a_point_has_one_path, the_path_returns};
 pub use laying::lay;
 pub use spots::{ConstSpot, PathSpots};

@@ -1,4 +1,4 @@
-ghost use Rattle.std.specs.Prelude.{◌≡◌, ◌+◌, ◌-◌, ◌^◌, ◌<◌, ◌≤◌, ◌++◌, map, flat_map, zip, length, pos, All, IfOk, OnOk};
+ghost use Rattle.std.specs.Prelude.{◌≡◌, ◌==◌, ◌+◌, ◌-◌, ◌^◌, ◌<◌, ◌≤◌, ◌++◌, ◌∷◌, [], map, flat_map, zip, length, pos, All, IfOk, OnOk};
 ghost use Rattle.std.specs.List.{filter, range_with_len};
 ghost use Rattle.wrap_rows.specs.Normal.{row_of};
 ghost use Rattle.wrap_rows.specs.Layout.{clause_from};
@@ -21,21 +21,43 @@ pub fn add_in_rows(
     alloc: Global,
     sound: &Sound,
     spots: &PathSpots,
+    blocks: u32,
     into: &mut System,
 ) -> Result<(), NoMemory>
     requires spots { AreSpotsOf sound.now spots.now }
     requires known { Exist (length into.old.ranges) spots.now }
+    requires blocks { blocks ≡ length sound.now.flow.order }
     requires room { length into.old.rows + length sound.now.flow.order < 2 ^ 31 }
     ensures { OnOk result (into.new ≡ record into.old {
       rows = into.old.rows ++ map row_of (spec.in_rows sound.now spots.now);
     }) }
 {
-    let blocks = sound.order().len() as u32;
     for at in 1..blocks {
-        let var = spots.blocks[at as usize];
-        let parts = in_parts(alloc, sound.edges(), spots.edges.as_slice(), at, var)?;
-        add_sum(alloc, into, parts.as_slice())?;
+        add_in_row(alloc, sound, spots, at, into)?;
     }
+    Ok(())
+}
+
+fn add_in_row(
+    alloc: Global,
+    sound: &Sound,
+    spots: &PathSpots,
+    at: u32,
+    into: &mut System,
+) -> Result<(), NoMemory>
+    requires spots { AreSpotsOf sound.now spots.now }
+    requires known { Exist (length into.old.ranges) spots.now }
+    requires at { at < length sound.now.flow.order }
+    requires room { length into.old.rows + 1 < 2 ^ 31 }
+    ensures { OnOk result (into.new ≡ record into.old {
+      rows = into.old.rows ++ row_of (spec.in_row sound.now spots.now at) ∷ [];
+    }) }
+{
+    let var = spots.blocks[at as usize];
+    let vars = spots.edges.as_slice();
+    let parts = in_parts(alloc, sound.edges(), vars, at, var)?;
+    let row = parts.as_slice();
+    add_sum(alloc, into, row)?;
     Ok(())
 }
 
@@ -47,15 +69,17 @@ fn in_parts(
     at: u32,
     block: u32,
 ) -> Result<Vec<Part>, NoMemory>
+    requires { length edges.now ≤ length vars.now }
     ensures { IfOk result (λ parts. parts.items
         ≡ spec.flow_row block (filter (spec.enters at) (zip edges.now vars.now))) }
 {
-    let mut parts: Vec<Part> = edges
-        .iter()
-        .zip(vars)
-        .filter(|(edge, _)| edge.to.0 == at)
-        .map(|(_, var)| times(1, *var))
-        .collect(alloc)?;
+    let mut parts = Vec::new(alloc);
+    for (item, edge) in edges.iter().enumerate() {
+        if !is_in(*edge, at) {
+            continue;
+        }
+        parts.push(times(1, vars[item]))?;
+    }
     parts.push(times(-1, block))?;
     Ok(parts)
 }
@@ -81,10 +105,31 @@ pub fn add_out_rows(
         if !goes_on(&blocks[place.0 as usize].end) {
             continue;
         }
-        let var = spots.blocks[at];
-        let parts = out_parts(alloc, sound.edges(), spots.edges.as_slice(), at as u32, var)?;
-        add_sum(alloc, into, parts.as_slice())?;
+        add_out_row(alloc, sound, spots, at as u32, into)?;
     }
+    Ok(())
+}
+
+fn add_out_row(
+    alloc: Global,
+    sound: &Sound,
+    spots: &PathSpots,
+    at: u32,
+    into: &mut System,
+) -> Result<(), NoMemory>
+    requires spots { AreSpotsOf sound.now spots.now }
+    requires known { Exist (length into.old.ranges) spots.now }
+    requires at { at < length sound.now.flow.order }
+    requires room { length into.old.rows + 1 < 2 ^ 31 }
+    ensures { OnOk result (into.new ≡ record into.old {
+      rows = into.old.rows ++ row_of (spec.out_row sound.now spots.now at) ∷ [];
+    }) }
+{
+    let var = spots.blocks[at as usize];
+    let vars = spots.edges.as_slice();
+    let parts = out_parts(alloc, sound.edges(), vars, at, var)?;
+    let row = parts.as_slice();
+    add_sum(alloc, into, row)?;
     Ok(())
 }
 
@@ -96,17 +141,31 @@ fn out_parts(
     at: u32,
     block: u32,
 ) -> Result<Vec<Part>, NoMemory>
+    requires { length edges.now ≤ length vars.now }
     ensures { IfOk result (λ parts. parts.items
         ≡ spec.flow_row block (filter (spec.leaves at) (zip edges.now vars.now))) }
 {
-    let mut parts: Vec<Part> = edges
-        .iter()
-        .zip(vars)
-        .filter(|(edge, _)| edge.from.0 == at)
-        .map(|(_, var)| times(1, *var))
-        .collect(alloc)?;
+    let mut parts = Vec::new(alloc);
+    for (item, edge) in edges.iter().enumerate() {
+        if !is_out(*edge, at) {
+            continue;
+        }
+        parts.push(times(1, vars[item]))?;
+    }
     parts.push(times(-1, block))?;
     Ok(parts)
+}
+
+fn is_in(edge: PositionEdge, at: u32) -> bool
+    ensures { result ≡ (edge.to.0 == at) }
+{
+    edge.to.0 == at
+}
+
+fn is_out(edge: PositionEdge, at: u32) -> bool
+    ensures { result ≡ (edge.from.0 == at) }
+{
+    edge.from.0 == at
 }
 
 // Whether a block that ends so is left by an edge.

@@ -47,13 +47,16 @@ pub fn add_switch(
     }) }
 {
     let block = spots.blocks[leaving.at as usize];
-    let default = edge_to(sound, spots, leaving.at, block_named(targets, 0));
+    let first = block_named(targets, 0);
+    let default = edge_to(sound, spots, leaving.at, first);
     let others = targets.split_at(1).1;
     add_not_poison(alloc, block, leaving.value, into)?;
     add_cases(alloc, sound, spots, leaving, others, cases, vars, into)?;
     let mine = vars.split_at(cases.len()).0;
     let lits = default_lits(alloc, block, mine, default)?;
-    add_lits(alloc, into, lits.as_slice())
+    let clause = lits.as_slice();
+    add_lits(alloc, into, clause)?;
+    Ok(())
 }
 
 // The clauses of each case.
@@ -81,13 +84,39 @@ fn add_cases(
           (zip (zip cases.now (places targets.now)) vars.now));
     }) }
 {
-    let block = spots.blocks[leaving.at as usize];
     for (item, case) in cases.iter().enumerate() {
-        let edge = edge_to(sound, spots, leaving.at, targets[item]);
-        let number = leaving.value.number;
-        add_case(alloc, block, number, case.value, vars[item], edge, into)?;
+        let target = targets[item];
+        let var = vars[item];
+        add_case_at(alloc, sound, spots, leaving, case, target, var, into)?;
     }
     Ok(())
+}
+
+fn add_case_at(
+    alloc: Global,
+    sound: &Sound,
+    spots: &PathSpots,
+    leaving: Leaving,
+    case: &Case,
+    target: BlockId,
+    var: u32,
+    into: &mut System,
+) -> Result<(), NoMemory>
+    requires spots { AreSpotsOf sound.now spots.now }
+    requires known { Exist (length into.old.ranges) spots.now }
+    requires at { leaving.at < length sound.now.flow.order }
+    requires number { leaving.value.number < length into.old.ranges }
+    requires var { var < length into.old.ranges }
+    requires room { length into.old.clauses + 4 < 2 ^ 31 }
+    ensures { OnOk result (into.new ≡ record into.old {
+      clauses = into.old.clauses ++ map clause_of (case_to sound.now spots.now leaving.at
+          leaving.value.number ((case.now, target.0), var));
+    }) }
+{
+    let block = spots.blocks[leaving.at as usize];
+    let edge = edge_to(sound, spots, leaving.at, target);
+    let number = leaving.value.number;
+    add_case(alloc, block, number, case.value, var, edge, into)
 }
 
 // The case's variable is 1 exactly where the number is this one, and then the edge is taken.

@@ -1,4 +1,4 @@
-ghost use Rattle.std.specs.Prelude.{◌≡◌, ◌==◌, ◌≤◌, length, zip, slice_index_or};
+ghost use Rattle.std.specs.Prelude.{◌≡◌, ◌≤◌, length, zip, slice_index_or};
 ghost use Rattle.ll_links.specs.Links.{block_id};
 ghost use Rattle.path_encoding.specs.Resolved.{first_of};
 ghost use Rattle.path_encoding.specs.Spots as spec;
@@ -80,15 +80,15 @@ fn edge_among(order: &[BlockId], edges: &[PositionEdge], vars: &[u32], at: u32, 
     ensures { result ≡ spec.edge_among order.now (zip edges.now vars.now) at to.0 }
 {
     for (item, edge) in edges.iter().enumerate() {
-        if edge.from.0 == at && is_at(order, edge.to.0, to) {
+        if goes_to(order, at, to, *edge) {
             return vars[item];
         }
     }
     0
 }
 
-fn is_at(order: &[BlockId], position: u32, block: BlockId) -> bool
-    ensures { result ≡ ((slice_index_or order.now position (block_id 0)).0 == block.0) }
+fn goes_to(order: &[BlockId], at: u32, to: BlockId, edge: PositionEdge) -> bool
+    ensures { result ≡ spec.goes_to order.now at to.0 edge }
 {
-    block_named(order, position as usize).0 == block.0
+    edge.from.0 == at && block_named(order, edge.to.0 as usize).0 == to.0
 }
