@@ -40,7 +40,7 @@ any_more (first ∷ seen) number other is =
 
 last_seen : (seen : List ℕ) (number : ℕ) → has_number (seen ++ number ∷ []) number ≡ true
 last_seen [] number = ap (λ (b : Bool). b || false) ((Decides-eqb number number).1 refl)
-last_seen (first ∷ seen) number = cond_both (eqb first number) true (has_number (seen ++ number ∷ []) number) (λ (b : Bool). b ≡ true) (λ _. refl) (λ _. last_seen seen number)
+last_seen (first ∷ seen) number = elim (eqb first number) as (λ (b : Bool). (b || has_number (seen ++ number ∷ []) number) ≡ true) [ true ↦ refl | false ↦ last_seen seen number ]
 
 -- none of those behind was seen
 not_seen : (seen numbers : List ℕ) → repeated_after seen numbers ≡ None → (number : ℕ) → Contains numbers number → has_number seen number ≡ false

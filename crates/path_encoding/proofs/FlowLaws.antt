@@ -61,8 +61,10 @@ module _ (f : ℕ → List Part) where
 filter_push : (p : ℕ → Bool) (xs : List ℕ) (x : ℕ) → filter p (xs ++ x ∷ []) ≡ filter p xs ++ cond (p x) (x ∷ []) []
 filter_push p [] x = refl
 filter_push p (y ∷ xs) x =
-    cond_both (p y) true false (λ (b : Bool). cond b (y ∷ filter p (xs ++ x ∷ [])) (filter p (xs ++ x ∷ [])) ≡ cond b (y ∷ filter p xs) (filter p xs) ++ cond (p x) (x ∷ []) [])
-    (λ _. ap (λ (rest : List ℕ). y ∷ rest) (filter_push p xs x)) (λ _. filter_push p xs x)
+    elim (p y) as (λ (b : Bool). cond b (y ∷ filter p (xs ++ x ∷ [])) (filter p (xs ++ x ∷ [])) ≡ cond b (y ∷ filter p xs) (filter p xs) ++ cond (p x) (x ∷ []) []) [
+      | true ↦ ap (λ (rest : List ℕ). y ∷ rest) (filter_push p xs x)
+      | false ↦ filter_push p xs x
+    ]
 
 module _ (p : ℕ → Bool) (f : ℕ → List Part) (n : ℕ) where
   kept_more : filter p (range_with_len 0 (n + 1)) ≡ filter p (range_with_len 0 n) ++ cond (p n) (n ∷ []) []

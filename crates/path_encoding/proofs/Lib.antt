@@ -18,3 +18,5 @@ mod ReturnLaws
 mod StepsLaws
 mod TakenLaws
 mod TargetLaws
+mod VisitLaws
+mod WholeLaws

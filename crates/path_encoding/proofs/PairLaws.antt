@@ -14,25 +14,25 @@ abbrev pub pairs_from : {X Y : Type 0} → List X → List Y → ℕ → List (X
 pairs_from xs ys i = zip (drop i xs) (drop i ys)
 
 pub pairs_more : {X Y : Type 0} (xs : List X) (ys : List Y) (i : ℕ) (x : X) (y : Y) → i < length xs → i < length ys → pairs_from xs ys i ≡ (get_or xs i x, get_or ys i y) ∷ pairs_from xs ys (i + 1)
-pairs_more xs ys i x y low low_too =
+pairs_more {X = X} {Y = Y} xs ys i x y low low_too =
     ap (λ (rest : List X). zip rest (drop i ys)) (drop_more xs i x low) ∙ ap (λ (rest : List Y). zip (get_or xs i x ∷ drop (i + 1) xs) rest) (drop_more ys i y low_too)
 
 pub pairs_end : {X Y : Type 0} (xs : List X) (ys : List Y) (i : ℕ) → length xs ≤ i → pairs_from xs ys i ≡ []
-pairs_end xs ys i past = ap (λ (rest : List X). zip rest (drop i ys)) (drop_all i xs past)
+pairs_end {X = X} {Y = Y} xs ys i past = ap (λ (rest : List X). zip rest (drop i ys)) (drop_all i xs past)
 
 -- a list that is made of the pairs that pass
 module _ {X Y Z : Type 0} (p : X × Y → Bool) (f : X × Y → Z) (made : List Z) (xs : List X) (ys : List Y) (i : ℕ) (x : X) (y : Y) where
   pub passed : made ++ map f (filter p (pairs_from xs ys i)) ≡ map f (filter p (zip xs ys)) → i < length xs → i < length ys → p (get_or xs i x, get_or ys i y) ≡ true → (made ++ f (get_or xs i x, get_or ys i y) ∷ []) ++ map f (filter p (pairs_from xs ys (i + 1))) ≡ map f (filter p (zip xs ys))
-  passed so_far low low_too yes_ =
-      let one = (get_or xs i x, get_or ys i y) in
+  passed so_far low low_too passes =
+      let one : X × Y = (get_or xs i x, get_or ys i y) in
       append_assoc made (f one ∷ []) (map f (filter p (pairs_from xs ys (i + 1))))
-      ∙ ap (λ (b : Bool). made ++ map f (cond b (one ∷ filter p (pairs_from xs ys (i + 1))) (filter p (pairs_from xs ys (i + 1))))) (sym yes_)
+      ∙ ap (λ (b : Bool). made ++ map f (cond b (one ∷ filter p (pairs_from xs ys (i + 1))) (filter p (pairs_from xs ys (i + 1))))) (sym passes)
       ∙ ap (λ (pairs : List (X × Y)). made ++ map f (filter p pairs)) (sym (pairs_more xs ys i x y low low_too))
       ∙ so_far
 
   pub skipped : made ++ map f (filter p (pairs_from xs ys i)) ≡ map f (filter p (zip xs ys)) → i < length xs → i < length ys → p (get_or xs i x, get_or ys i y) ≡ false → made ++ map f (filter p (pairs_from xs ys (i + 1))) ≡ map f (filter p (zip xs ys))
   skipped so_far low low_too fails =
-      let one = (get_or xs i x, get_or ys i y) in
+      let one : X × Y = (get_or xs i x, get_or ys i y) in
       ap (λ (b : Bool). made ++ map f (cond b (one ∷ filter p (pairs_from xs ys (i + 1))) (filter p (pairs_from xs ys (i + 1))))) (sym fails)
       ∙ ap (λ (pairs : List (X × Y)). made ++ map f (filter p pairs)) (sym (pairs_more xs ys i x y low low_too))
       ∙ so_far

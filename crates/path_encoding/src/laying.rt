@@ -7,6 +7,7 @@ ghost use Rattle.path_encoding.specs.PathLayout.{strict_clauses, start_clauses, 
 use crate::PathSpots;
 use crate::block::add_block;
 use crate::lits::{is_off, is_on};
+use crate::place::{block_in, place_at};
 use crate::rows::{add_flow_clauses, add_in_rows, add_out_rows};
 use ll_tree::{End, Param};
 use ll_verifier::Sound;
@@ -36,10 +37,10 @@ pub fn lay(
     let first = into.rows();
     let blocks = sound.order().len() as u32;
     add_in_rows(alloc, sound, spots, blocks, into)?;
-    add_out_rows(alloc, sound, spots, into)?;
+    add_out_rows(alloc, sound, spots, blocks, into)?;
     add_start(alloc, sound, spots, into)?;
     add_flow_clauses(alloc, first, into)?;
-    add_visits(alloc, sound, spots, into)?;
+    add_visits(alloc, sound, spots, blocks, into)?;
     Ok(())
 }
 
@@ -98,23 +99,26 @@ fn add_visits(
     alloc: Global,
     sound: &Sound,
     spots: &PathSpots,
+    blocks: u32,
     into: &mut System,
 ) -> Result<(), NoMemory>
     requires spots { AreSpotsOf sound.now spots.now }
     requires known { Exist (length into.old.ranges) spots.now }
+    requires blocks { blocks ≡ length sound.now.flow.order }
     requires room { length into.old.clauses
         + length (visit_clauses sound.now spots.now) < 2 ^ 31 }
     ensures { OnOk result (into.new ≡ record into.old {
       clauses = into.old.clauses ++ map clause_of (visit_clauses sound.now spots.now);
     }) }
 {
-    let blocks = sound.func().blocks.items();
     let mut before = 0;
-    for (at, place) in sound.order().iter().enumerate() {
-        let block = &blocks[place.0 as usize];
+    for at in 0..blocks {
+        let place = place_at(sound, at);
+        let block = block_in(sound, place);
         let cases = spots.cases.split_at(before).1;
-        add_block(alloc, sound, spots, at as u32, *place, block, cases, into)?;
-        before += case_count(&block.end);
+        add_block(alloc, sound, spots, at, place, block, cases, into)?;
+        let count = case_count(&block.end);
+        before += count;
     }
     Ok(())
 }

@@ -7,6 +7,7 @@ mod exit;
 mod laws;
 mod laying;
 mod lits;
+mod place;
 mod rows;
 mod spots;
 mod switch;

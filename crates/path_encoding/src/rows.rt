@@ -7,6 +7,7 @@ ghost use Rattle.path_encoding.specs.FlowRows as spec;
 ghost use Rattle.path_encoding.specs.PathLayout.{flow_clauses};
 
 use crate::PathSpots;
+use crate::place::{block_in, place_at};
 use ll_tree::End;
 use ll_verifier::{PositionEdge, Sound};
 use mix_system::{Part, System};
@@ -91,21 +92,24 @@ pub fn add_out_rows(
     alloc: Global,
     sound: &Sound,
     spots: &PathSpots,
+    blocks: u32,
     into: &mut System,
 ) -> Result<(), NoMemory>
     requires spots { AreSpotsOf sound.now spots.now }
     requires known { Exist (length into.old.ranges) spots.now }
+    requires blocks { blocks ≡ length sound.now.flow.order }
     requires room { length into.old.rows + length sound.now.flow.order < 2 ^ 31 }
     ensures { OnOk result (into.new ≡ record into.old {
       rows = into.old.rows ++ map row_of (spec.out_rows sound.now spots.now);
     }) }
 {
-    let blocks = sound.func().blocks.items();
-    for (at, place) in sound.order().iter().enumerate() {
-        if !goes_on(&blocks[place.0 as usize].end) {
+    for at in 0..blocks {
+        let place = place_at(sound, at);
+        let block = block_in(sound, place);
+        if !goes_on(&block.end) {
             continue;
         }
-        add_out_row(alloc, sound, spots, at as u32, into)?;
+        add_out_row(alloc, sound, spots, at, into)?;
     }
     Ok(())
 }
