@@ -13,6 +13,7 @@ mod MemberLaws
 mod NumberLaws
 mod OnePathLaws
 mod PairLaws
+mod ReadPathLaws
 mod ResolvedLaws
 mod ReturnLaws
 mod StepsLaws

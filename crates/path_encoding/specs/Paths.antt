@@ -1,12 +1,17 @@
 -- The path that a point takes through a function's graph.
-use Rattle.std.specs.Prelude.{◌≡◌, ◌↔◌, ◌⊎◌, ◌<◌, ℕ, ℤ, pos, false, List, [], ◌∷◌, length, All, Contains}
+use Rattle.std.specs.Prelude.{◌≡◌, ◌↔◌, ◌⊎◌, ◌<◌, ℕ, ℤ, pos, false, List, [], ◌∷◌, length, map, All, Contains}
 use Rattle.mix_system.specs.Row.{number_at}
+use Rattle.ll_links.specs.declared.link.Position.{Position}
 use Rattle.ll_verifier.specs.Sound.{SoundFunc}
 use Rattle.portion_cuts.specs.Paths.{IsPath}
 use Rattle.wrap_rows.specs.Vars.{IsMark}
 use Rattle.path_encoding.specs.declared.spots.PathSpots.{PathSpots}
 use Rattle.path_encoding.specs.Spots.{block_at, block_var, edge_vars}
 use Rattle.path_encoding.specs.FlowRows.{goes_on}
+
+-- positions as numbers
+abbrev pub positions : List Position → List ℕ
+positions path = map (λ position. position.0) path
 
 -- the path goes from one position to the other
 abbrev pub Steps : List ℕ → (from to : ℕ) → Type 0

@@ -44,18 +44,12 @@ pub fn add_end(
     }) }
 {
     let links = end_links(sound, at, place, block);
-    let value = source_vars(spots, first_of(links.sources));
+    let first = first_of(links.sources);
+    let value = source_vars(spots, first);
     let leaving = Leaving { at, value };
-    add_exit(
-        alloc,
-        sound,
-        spots,
-        leaving,
-        links.blocks,
-        cases,
-        &block.end,
-        into,
-    )
+    let end = &block.end;
+    add_exit(alloc, sound, spots, leaving, links.blocks, cases, end, into)?;
+    Ok(())
 }
 
 // What the terminator of a block names.

@@ -7,6 +7,7 @@ mod exit;
 mod laws;
 mod laying;
 mod lits;
+mod path;
 mod place;
 mod rows;
 mod spots;
@@ -15,4 +16,5 @@ mod vars;
 
 pub use laws::{a_path_that_returns_makes_it_hold, a_point_has_one_path, the_path_returns};
 pub use laying::lay;
+pub use path::path_at;
 pub use spots::{ConstSpot, PathSpots};

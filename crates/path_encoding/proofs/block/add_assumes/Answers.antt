@@ -1,5 +1,6 @@
 use Rattle.std.proofs.Common.{◌≡◌, ◌<◌, ◌+◌, ◌++◌, ◌∙◌, ℕ, List, [], true, false, length, get_or, map, sym, ap, subst, arith, rules}
 use Rattle.std.specs.Prelude.{flat_map}
+use Rattle.std.proofs.lemmas.List.{get_or_default}
 use Rattle.mix_system.specs.declared.literal.Lit.{Lit}
 use Rattle.mix_system.specs.System.{System}
 use Rattle.ll_tree.specs.declared.block.Instr.{Instr}
@@ -12,8 +13,8 @@ use Rattle.path_encoding.specs.Spots.{block_var, source_vars}
 use Rattle.path_encoding.specs.Ends.{assumed, assume_clauses}
 use Rattle.path_encoding.specs.Resolved.{is_assume, first_of}
 use Rattle.path_encoding.proofs.KnownLaws.{source_known}
-use Rattle.path_encoding.proofs.LaidLaws.{laid_more, laid_room}
-use Rattle.path_encoding.proofs.ResolvedLaws.{assume_there}
+use Rattle.path_encoding.proofs.LaidLaws.{laid_more, laid_skip, laid_room}
+use Rattle.path_encoding.proofs.ResolvedLaws.{no_assume, assume_there}
 use Rattle.path_encoding.proofs.block.add_assumes.Goals as goal
 
 pub add_assumed-requires-clause-number : goal.add_assumed-requires-clause-number
@@ -62,7 +63,17 @@ loop-item-preserved c =
     let test : is_assume instr.op ≡ true = search rules in
     let piece = assume_there it spots (block_var spots c.args.at) _ instr c.links-links.result what linked test in
     let value : c.source_vars-value.result ≡ source_vars spots (first_of c.links-links.result.sources.now) = c.source_vars-value.ensures ∙ ap (source_vars spots) c.first_of-first.ensures in
-    let var : c.index-var.result.now ≡ block_var spots c.args.at = search rules in
+    let var : c.index-var.result.now ≡ block_var spots c.args.at = c.index-var.ensures ∙ get_or_default spots.blocks.items c.args.at c.index-var.result.now 0 (omega (arith, c.requires.at.within, c.requires.spots.blocks)) in
     let same : assumed c.index-var.result.now c.source_vars-value.result ≡ f (get_or c.items-body.result.now item instr) = (λ i. assumed (var i) (value i)) ∙ sym piece ∙ ap f c.index-body-item.is in
     laid_more clause_of f c.items-body.result.now c.args.into.now now c.add_assumed.new.into item instr c.loop-item.invariant c.loop-item-test.true
     (c.in_ok-add_assumed.ensures ∙ ap (λ (clauses : List (List Lit)). record now { clauses = now.clauses ++ map clause_of clauses }) same)
+
+pub loop-item-preserved-then-not-is_assume : goal.loop-item-preserved-then-not-is_assume
+loop-item-preserved-then-not-is_assume c =
+    let it = c.args.sound.now in
+    let spots = c.args.spots.now in
+    let instr = c.index-body-item.result in
+    let item = c.loop-item.item in
+    let f = λ (instr : Instr). assume_clauses it spots (block_var spots c.args.at) instr.op in
+    let other : is_assume instr.op ≡ false = search rules in
+    laid_skip clause_of f c.items-body.result.now c.args.into.now c.loop-item.into item instr c.loop-item.invariant c.loop-item-test.true (ap f (sym c.index-body-item.is) ∙ no_assume it spots (block_var spots c.args.at) instr.op other)

@@ -59,9 +59,8 @@ loop-item-preserved c =
     let strict : param.strict ≡ true = search rules in
     let read = pair_at params values item param none low low_too c.index-params-item.is in
     let piece = ap strict_clauses read ∙ ap (λ (b : Bool). cond b ((is_off (get_or values item none).mark ∷ []) ∷ []) []) strict in
-    let added : c.add_lits.new.into ≡ record now { clauses = now.clauses ++ map clause_of ((is_off (get_or values item none).mark ∷ []) ∷ []) } = search rules in
     laid_more clause_of strict_clauses (zip params values) c.args.into.now now c.add_lits.new.into item (param, none) c.loop-item.invariant (zip_low params values item low low_too)
-    (added ∙ ap (λ (clauses : List (List Lit)). record now { clauses = now.clauses ++ map clause_of clauses }) (sym piece))
+    (c.in_ok-add_lits.ensures.ok ∙ ap (λ (clauses : List (List Lit)). record now { clauses = now.clauses ++ map clause_of clauses }) (sym piece))
 
 pub returns : goal.returns
 returns c =

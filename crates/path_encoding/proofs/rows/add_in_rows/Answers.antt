@@ -31,3 +31,11 @@ loop-at-preserved c =
     ∙ ap (λ (n : ℕ). old.rows ++ (so_far ++ row_of (f n) ∷ [])) (sym here)
     ∙ ap (λ (behind : List (List Part)). old.rows ++ behind) (sym (rows_more f 1 (at - 1)))
     ∙ ap (λ (n : ℕ). old.rows ++ map row_of (map f (range_with_len 1 n))) next)
+
+pub returns : goal.returns
+returns c =
+    let it = c.args.sound.now in
+    let old = c.args.into.now in
+    let f = in_row it c.args.spots.now in
+    let same : c.loop-at.at - 1 ≡ length it.flow.order - 1 = omega (arith, c.requires.blocks, c.loop-at-test.false) in
+    c.loop-at.invariant ∙ ap (λ (n : ℕ). record old { rows = old.rows ++ map row_of (map f (range_with_len 1 n)) }) same

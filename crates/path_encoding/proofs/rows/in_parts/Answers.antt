@@ -27,7 +27,7 @@ loop-item-preserved c =
     let low : i < length edges = c.loop-item-test.true in
     let passes : eqb (get_or edges i none).to.0 c.args.at ≡ true = search rules in
     let part_is : c.times.result ≡ times (pos 1) (get_or vars i 0) = search rules in
-    let pushed = c.in_ok-push.ensures.ok ∙ ap (λ (part : Part). c.loop-item.parts.items ++ part ∷ []) part_is in
+    let pushed = c.in_ok-push.ensures.items ∙ ap (λ (part : Part). c.loop-item.parts.items ++ part ∷ []) part_is in
     subst (λ (now : List Part). now ++ map (λ (edge : PositionEdge × ℕ). times (pos 1) edge.1) (filter (enters c.args.at) (pairs_from edges vars (i + 1))) ≡ map (λ (edge : PositionEdge × ℕ). times (pos 1) edge.1) (filter (enters c.args.at) (zip edges vars))) (sym pushed)
     (passed (enters c.args.at) (λ (edge : PositionEdge × ℕ). times (pos 1) edge.1) c.loop-item.parts.items edges vars i none 0 c.loop-item.invariant low (omega (arith, low, c.requires)) passes)
 
@@ -37,4 +37,4 @@ returns c =
     let vars = c.args.vars.now in
     let none : PositionEdge = record { from = record { 0 = 0 }; to = record { 0 = 0 } } in
     let made = all_passed (enters c.args.at) (λ (edge : PositionEdge × ℕ). times (pos 1) edge.1) c.loop-item.parts.items edges vars c.loop-item.item none 0 c.loop-item.invariant (omega (arith, c.loop-item-test.false)) in
-    c.in_ok-push-2.ensures.ok ∙ ap (λ (part : Part). c.loop-item.parts.items ++ part ∷ []) c.times-2.ensures ∙ ap (λ (front : List Part). front ++ times (neg_ℤ (pos 1)) c.args.block ∷ []) made
+    c.in_ok-push-2.ensures.items ∙ ap (λ (part : Part). c.loop-item.parts.items ++ part ∷ []) c.times-2.ensures ∙ ap (λ (front : List Part). front ++ times (neg_ℤ (pos 1)) c.args.block ∷ []) made

@@ -1,6 +1,6 @@
 use Rattle.std.proofs.Common.{◌≡◌, ◌<◌, ◌+◌, ◌++◌, ◌∙◌, ℕ, List, length, get_or, map, sym, ap, subst, arith, rules}
 use Rattle.std.specs.Prelude.{zip, flat_map}
-use Rattle.std.proofs.lemmas.List.{length-map}
+use Rattle.std.proofs.lemmas.List.{length-map, get_or_default}
 use Rattle.mix_system.specs.declared.literal.Lit.{Lit}
 use Rattle.mix_system.specs.System.{System}
 use Rattle.ll_links.specs.declared.link.BlockId.{BlockId}
@@ -32,10 +32,11 @@ loop-item-preserved c =
     let now = c.loop-item.into in
     let low : item < length pairs = omega (arith, count, c.loop-item-test.true) in
     let case = c.index-cases-item.result in
-    let target = c.index-target.result.now in
-    let var = c.index-var.result.now in
-    let target_is : target ≡ get_or c.args.targets.now item target = search rules in
-    let var_is : var ≡ get_or c.args.vars.now item var = search rules in
+    let first : BlockId = record { 0 = 0 } in
+    let target = get_or c.args.targets.now item first in
+    let var = get_or c.args.vars.now item 0 in
+    let target_is : target ≡ get_or c.args.targets.now item target = get_or_default c.args.targets.now item first target (omega (arith, c.requires.targets, c.loop-item-test.true)) in
+    let var_is : var ≡ get_or c.args.vars.now item var = get_or_default c.args.vars.now item 0 var (omega (arith, c.requires.each, c.loop-item-test.true)) in
     let read = case_read c.args.cases.now c.args.targets.now c.args.vars.now item case target var c.loop-item-test.true (omega (arith, c.requires.targets, c.loop-item-test.true)) (omega (arith, c.requires.each, c.loop-item-test.true)) c.index-cases-item.is target_is var_is in
     laid_more clause_of f pairs c.args.into.now now c.add_case_at.new.into item ((case, target.0), var) c.loop-item.invariant low
     (c.in_ok-add_case_at.ensures ∙ ap (λ (clauses : List (List Lit)). record now { clauses = now.clauses ++ map clause_of clauses }) (ap f (sym read)))

@@ -28,17 +28,17 @@ add_cases-requires-clause-room c =
 pub add_lits-requires-clause-known : goal.add_lits-requires-clause-known
 add_lits-requires-clause-known c =
     let vars = length c.args.into.now.ranges in
-    let mine = c.split_at-mine.result.0.now in
+    let mine = c.split_at-2.result.0.now in
     let two = c.add_cases.new.into in
     let same : vars ≡ length two.ranges = sym (ap {A = System} (λ s. length s.ranges) c.in_ok-add_cases.ensures ∙ ap {A = System} (λ s. length s.ranges) c.in_ok-add_not_poison.ensures) in
     let block_low : c.index-block.result.now < vars = search rules in
     let edge_low : c.edge_to-default.result < vars = subst (λ (n : ℕ). n < vars) (sym c.edge_to-default.ensures) (edge_known vars c.args.sound.now c.args.spots.now c.args.leaving.at _ c.requires.known) in
-    let known : All (λ var. var < vars) mine = subst (All (λ (var : ℕ). var < vars)) (sym c.split_at-mine.ensures.front) (All-take (λ (var : ℕ). var < vars) (length c.args.cases.now) c.args.vars.now c.requires.vars) in
+    let known : All (λ var. var < vars) mine = subst (All (λ (var : ℕ). var < vars)) (sym c.split_at-2.ensures.front) (All-take (λ (var : ℕ). var < vars) (length c.args.cases.now) c.args.vars.now c.requires.vars) in
     rw (c.as_slice-clause.ensures.value ∙ c.in_ok-lits.ensures)
     (subst (λ (n : ℕ). All (λ (lit : Lit). Exists n (length two.rows) lit.term) (is_off c.index-block.result.now ∷ (map is_on mine ++ is_on c.edge_to-default.result ∷ []))) same (default_known vars (length two.rows) c.index-block.result.now c.edge_to-default.result mine block_low known edge_low))
 
 pub add_lits-requires-clause-inner : goal.add_lits-requires-clause-inner
-add_lits-requires-clause-inner c = rw (c.as_slice-clause.ensures.value ∙ c.in_ok-lits.ensures) (default_inner c.index-block.result.now c.edge_to-default.result c.split_at-mine.result.0.now)
+add_lits-requires-clause-inner c = rw (c.as_slice-clause.ensures.value ∙ c.in_ok-lits.ensures) (default_inner c.index-block.result.now c.edge_to-default.result c.split_at-2.result.0.now)
 
 pub returns : goal.returns
 returns c =
@@ -52,12 +52,12 @@ returns c =
     let new = c.add_lits.new.into in
     let cases = c.args.cases.now in
     let vars = c.args.vars.now in
-    let mine = c.split_at-mine.result.0.now in
+    let mine = c.split_at-2.result.0.now in
     let targets = drop 1 (places c.args.targets.now) in
     let block : c.index-block.result.now ≡ block_var spots at = search rules in
-    let others : places c.split_at-others.result.1.now ≡ targets = ap places c.split_at-others.ensures.back ∙ places_drop c.args.targets.now in
+    let others : places c.split_at.result.1.now ≡ targets = ap places c.split_at.ensures.back ∙ places_drop c.args.targets.now in
     let default : c.edge_to-default.result ≡ edge_to it spots at (slice_index (places c.args.targets.now) 0) = c.edge_to-default.ensures ∙ ap (edge_to it spots at) (ap (λ (b : BlockId). b.0) c.block_named-first.ensures ∙ first_place c.args.targets.now) in
-    let front : mine ≡ take (length cases) vars = c.split_at-mine.ensures.front in
+    let front : mine ≡ take (length cases) vars = c.split_at-2.ensures.front in
     let lits : c.as_slice-clause.result.now ≡ default_clause (block_var spots at) (zip cases vars) (edge_to it spots at (slice_index (places c.args.targets.now) 0)) =
     c.as_slice-clause.ensures.value ∙ c.in_ok-lits.ensures ∙ (λ i. is_off (block i) ∷ (map is_on (front i) ++ is_on (default i) ∷ [])) ∙ ap (λ (ons : List Lit). is_off (block_var spots at) ∷ (ons ++ is_on (edge_to it spots at (slice_index (places c.args.targets.now) 0)) ∷ [])) (case_ons cases vars c.requires.each) in
     let first : one ≡ record old { clauses = old.clauses ++ clause_of (not_poison (block_var spots at) value) ∷ [] } = c.in_ok-add_not_poison.ensures ∙ ap (λ (b : ℕ). record old { clauses = old.clauses ++ clause_of (not_poison b value) ∷ [] }) block in
