@@ -111,11 +111,12 @@ fn add_visits(
       clauses = into.old.clauses ++ map clause_of (visit_clauses sound.now spots.now);
     }) }
 {
+    let all = spots.cases.as_slice();
     let mut before = 0;
     for at in 0..blocks {
         let place = place_at(sound, at);
         let block = block_in(sound, place);
-        let cases = spots.cases.split_at(before).1;
+        let cases = all.split_at(before).1;
         add_block(alloc, sound, spots, at, place, block, cases, into)?;
         let count = case_count(&block.end);
         before += count;

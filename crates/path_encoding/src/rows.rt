@@ -28,6 +28,7 @@ pub fn add_in_rows(
     requires spots { AreSpotsOf sound.now spots.now }
     requires known { Exist (length into.old.ranges) spots.now }
     requires blocks { blocks ≡ length sound.now.flow.order }
+    requires some { 0 < length sound.now.flow.order }
     requires room { length into.old.rows + length sound.now.flow.order < 2 ^ 31 }
     ensures { OnOk result (into.new ≡ record into.old {
       rows = into.old.rows ++ map row_of (spec.in_rows sound.now spots.now);

@@ -15,7 +15,7 @@ use Rattle.path_encoding.proofs.laying.add_strict.Goals as goal
 pair_at : (params : List Param) (values : List ValueVars) (i : ℕ) (param : Param) (value : ValueVars) → i < length params → i < length values → param ≡ get_or params i param → get_or (zip params values) i (param, value) ≡ (param, get_or values i value)
 pair_at params values i param value low low_too is = get_or-zip params values i (param, value) low low_too ∙ (λ j. (sym is j, get_or values i value))
 
-none : ValueVars
+abbrev none : ValueVars
 none = record { number = 0; mark = 0 }
 
 pub loop-item-init : goal.loop-item-init

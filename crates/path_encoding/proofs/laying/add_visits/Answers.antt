@@ -19,7 +19,7 @@ pub split_at-requires : goal.split_at-requires
 split_at-requires c =
     let it = c.args.sound.now in
     let at = c.loop-at.at in
-    omega (arith, c.loop-at.invariant.before, before_within it c.args.spots.now c.requires.spots at (omega (arith, c.loop-at-test.true, c.requires.blocks)))
+    omega (arith, ap length c.as_slice-all.ensures.value, c.loop-at.invariant.before, before_within it c.args.spots.now c.requires.spots at (omega (arith, c.loop-at-test.true, c.requires.blocks)))
 
 pub add_block-requires-clause-at : goal.add_block-requires-clause-at
 add_block-requires-clause-at c =
@@ -35,7 +35,7 @@ add_block-requires-clause-each c =
     let block = c.block_in-block.result.now in
     let low : at < length it.flow.order = omega (arith, c.loop-at-test.true, c.requires.blocks) in
     let seen = block_seen it c.place_at-place.ensures.sound at c.place_at-place.result.0 block low c.place_at-place.ensures.place c.place_at-place.ensures.within c.block_in-block.ensures in
-    let same : drop (cases_before it at) spots.cases.items ≡ c.split_at.result.1.now = ap (λ (n : ℕ). drop n spots.cases.items) (sym c.loop-at.invariant.before) ∙ sym c.split_at.ensures.back in
+    let same : drop (cases_before it at) spots.cases.items ≡ c.split_at.result.1.now = ap (λ (n : ℕ). drop n spots.cases.items) (sym c.loop-at.invariant.before) ∙ ap (drop c.loop-at.before) (sym c.as_slice-all.ensures.value) ∙ sym c.split_at.ensures.back in
     omega (arith, cases_few it spots c.requires.spots at low, ap (λ (b : Block). length (cases_of b.end)) seen, ap length same)
 
 pub add_block-requires-clause-room : goal.add_block-requires-clause-room
@@ -48,7 +48,7 @@ add_block-requires-clause-room c =
     let cases = c.split_at.result.1.now in
     let low : at < length it.flow.order = omega (arith, c.loop-at-test.true, c.requires.blocks) in
     let seen = block_seen it c.place_at-place.ensures.sound at c.place_at-place.result.0 block low c.place_at-place.ensures.place c.place_at-place.ensures.within c.block_in-block.ensures in
-    let same : drop (cases_before it at) spots.cases.items ≡ cases = ap (λ (n : ℕ). drop n spots.cases.items) (sym c.loop-at.invariant.before) ∙ sym c.split_at.ensures.back in
+    let same : drop (cases_before it at) spots.cases.items ≡ cases = ap (λ (n : ℕ). drop n spots.cases.items) (sym c.loop-at.invariant.before) ∙ ap (drop c.loop-at.before) (sym c.as_slice-all.ensures.value) ∙ sym c.split_at.ensures.back in
     let piece = block_piece it spots at block cases seen same in
     let so_far = flat_map (block_clauses it spots) (range_with_len 0 at) in
     omega (
@@ -83,7 +83,7 @@ loop-at-preserved c =
     let cases = c.split_at.result.1.now in
     let low : at < length it.flow.order = omega (arith, c.loop-at-test.true, c.requires.blocks) in
     let seen = block_seen it c.place_at-place.ensures.sound at c.place_at-place.result.0 block low c.place_at-place.ensures.place c.place_at-place.ensures.within c.block_in-block.ensures in
-    let same : drop (cases_before it at) spots.cases.items ≡ cases = ap (λ (n : ℕ). drop n spots.cases.items) (sym c.loop-at.invariant.before) ∙ sym c.split_at.ensures.back in
+    let same : drop (cases_before it at) spots.cases.items ≡ cases = ap (λ (n : ℕ). drop n spots.cases.items) (sym c.loop-at.invariant.before) ∙ ap (drop c.loop-at.before) (sym c.as_slice-all.ensures.value) ∙ sym c.split_at.ensures.back in
     let piece = block_piece it spots at block cases seen same in
     let so_far = map clause_of (flat_map (block_clauses it spots) (range_with_len 0 at)) in
     record {

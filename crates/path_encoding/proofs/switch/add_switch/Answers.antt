@@ -1,7 +1,7 @@
 use Rattle.std.proofs.Common.{◌≡◌, ◌<◌, ◌+◌, ◌++◌, ◌∷◌, [], ◌∙◌, ℕ, List, length, take, drop, map, sym, ap, subst, arith, rules}
 use Rattle.std.specs.Prelude.{zip, flat_map, slice_index}
 use Rattle.std.specs.List.{All}
-use Rattle.std.proofs.lemmas.List.{length-map, length-drop, length-append}
+use Rattle.std.proofs.lemmas.List.{length-map, length-drop, length-append, get_or_default}
 use Rattle.std.proofs.lemmas.List.Elements.{All-take}
 use Rattle.mix_system.specs.declared.literal.Lit.{Lit}
 use Rattle.mix_system.specs.System.{System, Exists}
@@ -31,7 +31,8 @@ add_lits-requires-clause-known c =
     let mine = c.split_at-2.result.0.now in
     let two = c.add_cases.new.into in
     let same : vars ≡ length two.ranges = sym (ap {A = System} (λ s. length s.ranges) c.in_ok-add_cases.ensures ∙ ap {A = System} (λ s. length s.ranges) c.in_ok-add_not_poison.ensures) in
-    let block_low : c.index-block.result.now < vars = search rules in
+    let at_low : c.args.leaving.at < length c.args.spots.now.blocks.items = omega (arith, c.requires.at, c.requires.spots.blocks) in
+    let block_low : c.index-block.result.now < vars = subst (λ (n : ℕ). n < vars) (sym c.index-block.ensures) (c.requires.known.blocks c.args.leaving.at c.index-block.result.now at_low) in
     let edge_low : c.edge_to-default.result < vars = subst (λ (n : ℕ). n < vars) (sym c.edge_to-default.ensures) (edge_known vars c.args.sound.now c.args.spots.now c.args.leaving.at _ c.requires.known) in
     let known : All (λ var. var < vars) mine = subst (All (λ (var : ℕ). var < vars)) (sym c.split_at-2.ensures.front) (All-take (λ (var : ℕ). var < vars) (length c.args.cases.now) c.args.vars.now c.requires.vars) in
     rw (c.as_slice-clause.ensures.value ∙ c.in_ok-lits.ensures)
@@ -54,7 +55,7 @@ returns c =
     let vars = c.args.vars.now in
     let mine = c.split_at-2.result.0.now in
     let targets = drop 1 (places c.args.targets.now) in
-    let block : c.index-block.result.now ≡ block_var spots at = search rules in
+    let block : c.index-block.result.now ≡ block_var spots at = c.index-block.ensures ∙ get_or_default spots.blocks.items at c.index-block.result.now 0 (omega (arith, c.requires.at, c.requires.spots.blocks)) in
     let others : places c.split_at.result.1.now ≡ targets = ap places c.split_at.ensures.back ∙ places_drop c.args.targets.now in
     let default : c.edge_to-default.result ≡ edge_to it spots at (slice_index (places c.args.targets.now) 0) = c.edge_to-default.ensures ∙ ap (edge_to it spots at) (ap (λ (b : BlockId). b.0) c.block_named-first.ensures ∙ first_place c.args.targets.now) in
     let front : mine ≡ take (length cases) vars = c.split_at-2.ensures.front in
