@@ -60,7 +60,7 @@ loop-item-preserved c =
     let read = pair_at params values item param none low low_too c.index-params-item.is in
     let piece = ap strict_clauses read ∙ ap (λ (b : Bool). cond b ((is_off (get_or values item none).mark ∷ []) ∷ []) []) strict in
     laid_more clause_of strict_clauses (zip params values) c.args.into.now now c.add_lits.new.into item (param, none) c.loop-item.invariant (zip_low params values item low low_too)
-    (c.in_ok-add_lits.ensures.ok ∙ ap (λ (clauses : List (List Lit)). record now { clauses = now.clauses ++ map clause_of clauses }) (sym piece))
+    (c.in_ok-add_lits.ensures.ok ∙ ap (λ (lit : Lit). record now { clauses = now.clauses ++ clause_of (lit ∷ []) ∷ [] }) c.is_off.ensures ∙ ap (λ (clauses : List (List Lit)). record now { clauses = now.clauses ++ map clause_of clauses }) (sym piece))
 
 pub returns : goal.returns
 returns c =
