@@ -10,8 +10,8 @@ ghost use Rattle.path_encoding.specs.PathLayout.{path_layout};
 ghost use Rattle.path_encoding.specs.Paths.{IsTaken, AreMarks};
 ghost use Rattle.path_encoding.specs.Agree.{AgreesWith, AgreesOn, AreCasesSaid, ReturnsOn};
 
-/// Where blocks and edges are 0 or 1 and the layout of paths holds, a point takes exactly one path from the entry
-/// to an end: its blocks and its edges are those that are 1, and no others.
+/// Where blocks and edges are 0 or 1 and the layout of paths holds, a point takes exactly one path
+/// from the entry to an end: its blocks and its edges are those that are 1, and no others.
 pub fn a_point_has_one_path()
     ensures { (it : SoundFunc) (spots : PathSpots) (point : List ℤ) → IsSound it
         → AreSpotsOf it spots → AreMarks spots point → Holds (path_layout it spots) point
@@ -19,8 +19,8 @@ pub fn a_point_has_one_path()
         × ((other : List ℕ) → IsTaken it spots point other → other ≡ path) }
 {}
 
-/// Where the layout holds at a point and values are what their variables say, they lead along the path that the
-/// point takes: each of its blocks goes to the next, and the last one returns.
+/// Where the layout holds at a point and values are what their variables say, they lead along the path
+/// that the point takes: each of its blocks goes to the next, and the last one returns.
 pub fn the_path_returns()
     ensures { (it : SoundFunc) (spots : PathSpots) (point : List ℤ) → IsSound it
         → AreSpotsOf it spots → AreMarks spots point → Holds (path_layout it spots) point
@@ -30,9 +30,9 @@ pub fn the_path_returns()
         → ReturnsOn it args vals path }
 {}
 
-/// The path of values that return makes the layout of paths hold at a point that says what they are: its blocks and
-/// edges are 1 and no others, a case is 1 exactly where its switch has its number, and the variables of what
-/// the path asks have its values.
+/// The path of values that return makes the layout of paths hold at a point that says what they are: its
+/// blocks and edges are 1 and no others, a case is 1 exactly where its switch has its number, and the
+/// variables of what the path asks have its values.
 pub fn a_path_that_returns_makes_it_hold()
     ensures { (it : SoundFunc) (spots : PathSpots) (point : List ℤ) → IsSound it
         → AreSpotsOf it spots → AreMarks spots point → AreCasesSaid it spots point
