@@ -72,7 +72,7 @@ fn system_text(alloc: Global, system: &System) -> Result<String, NoMemory> {
     let mut line = String::new(alloc);
     for row in 0..system.rows() {
         line.push_str(row_text(alloc, system.row(row))?.as_str())?;
-        line.push_str("; ")?;
+        line.push_str(";")?;
     }
     Ok(line)
 }
@@ -81,7 +81,7 @@ fn row_text(alloc: Global, parts: &[Part]) -> Result<String, NoMemory> {
     let mut line = String::new(alloc);
     for part in parts {
         let (coeff, var) = (part.coeff, part.var);
-        line.push_str(format!(in alloc; "{coeff} v{var} ")?.as_str())?;
+        line.push_str(format!(in alloc; " {coeff} v{var}")?.as_str())?;
     }
     Ok(line)
 }
