@@ -1,5 +1,5 @@
 -- The clause that hints end with, and what they are run from.
-use Rattle.std.proofs.Common.{◌≡◌, ◌⊎◌, ℕ, zero, suc, ◌+◌, ◌-◌, ◌<◌, ◌≤◌, List, [], ◌∷◌, ◌++◌, length, get_or, map, Option, Some, All, Any, refl, sym, ap, ◌∙◌, subst, inl, inr, ⊎_elim, arith}
+use Rattle.std.proofs.Common.{◌≡◌, ◌⊎◌, ℕ, zero, suc, ◌+◌, ◌<◌, ◌≤◌, List, [], ◌∷◌, length, get_or, map, Some, All, sym, ap, ◌∙◌, subst, inl, inr, ⊎_elim, arith}
 use Rattle.std.specs.Prelude.{slice_get, Contains}
 use Rattle.std.specs.List.{HoldsAt}
 use Rattle.std.proofs.lemmas.Bool.{cases_lt}
@@ -8,20 +8,18 @@ use Rattle.std.proofs.lemmas.List.Elements.{All-append, All-cons, All-weaker}
 use Rattle.std.proofs.lemmas.Option.{slice_get-get_or, slice_get_within}
 use Rattle.mix_system.specs.declared.literal.Lit.{Lit}
 use Rattle.mix_system.specs.Lit.{negation}
-use Rattle.mix_system.specs.System.{IsInner}
 use Rattle.mix_system.specs.Bounds.{Entails, IsIn, IsFalseIn, range_bounds, unit_bounds}
 use Rattle.mix_system.specs.Follows.{LeavesOne}
-use Rattle.mix_system.proofs.AnyLaws.{Any-append_right, Any-here, Any-there}
 use Rattle.mix_system.proofs.BoundLaws.{IsIn-none, IsIn-contained, IsIn-first, IsIn-there, IsIn-entailed, negation-twice}
 use Rattle.bound_trail.specs.Edges.{blank_lit}
 use Rattle.bound_trail.specs.Trail.{Trail, box, box_with, IsCause, IsTrail}
 use Rattle.bound_trail.proofs.TrailLaws.{box_is}
-use Rattle.bound_trail.proofs.EntailmentLaws.{entails_itself, falsifies_each_other}
+use Rattle.bound_trail.proofs.EntailmentLaws.{falsifies_each_other}
 use Rattle.bound_trail.proofs.BoxLaws.{in_more, in_box, in_put, in_ranges, consistent_box}
 use Rattle.clause_search.specs.Search.{Search, WasQuiet, present_level}
 use Rattle.clause_search.specs.Answers.{IsConflict}
 use Rattle.clause_search.specs.declared.marks.Mark.{Mark}
-use Rattle.clause_search.specs.Marks.{lit_at, IsSeen, IsMarked, AreCovered, Keeps}
+use Rattle.clause_search.specs.Marks.{lit_at, IsSeen, AreCovered}
 use Rattle.clause_search.specs.Runs.{IsAim, IsAimSoFar, IsReady, AreKept}
 use Rattle.clause_search.proofs.MarkLaws.{some_same, same_clause, trail_true}
 use Rattle.clause_search.proofs.LearntLaws.{single_of, singles_true, kept_place}

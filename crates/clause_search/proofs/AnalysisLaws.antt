@@ -1,14 +1,12 @@
 -- What the steps of an analysis come to.
-use Rattle.std.proofs.Common.{◌≡◌, ℕ, ◌+◌, ◌-◌, ◌<◌, ◌≤◌, List, [], ◌∷◌, length, get_or, Some, All, Any, refl, sym, ap, ◌∙◌, subst, ⊎_elim, arith}
+use Rattle.std.proofs.Common.{◌≡◌, ℕ, ◌-◌, ◌<◌, ◌≤◌, List, [], length, get_or, Some, All, Any, sym, ap, ◌∙◌, subst, ⊎_elim, arith}
 use Rattle.std.specs.Prelude.{slice_get, Contains}
-use Rattle.std.proofs.lemmas.Bool.{cases_lt}
 use Rattle.std.proofs.lemmas.List.{get_or_default}
 use Rattle.std.proofs.lemmas.List.Elements.{All-contains}
 use Rattle.std.proofs.lemmas.Option.{slice_get_within, get_or_from_slice_get}
 use Rattle.mix_system.specs.declared.literal.Lit.{Lit}
 use Rattle.mix_system.specs.declared.tally.Tally.{Tally}
-use Rattle.mix_system.specs.Lit.{negation}
-use Rattle.mix_system.specs.System.{IsClause, IsInner}
+use Rattle.mix_system.specs.System.{IsInner}
 use Rattle.mix_system.specs.Follows.{LeavesNone, Follows}
 use Rattle.bound_trail.specs.Trail.{Trail, box, level_end, IsCause, IsTrail}
 use Rattle.clause_search.specs.Search.{Search, WasQuiet, present_level, known, single_bounds}
@@ -18,12 +16,12 @@ use Rattle.clause_search.specs.declared.marks.Mark.{Mark}
 use Rattle.clause_search.specs.declared.marks.Mark.TheVariants.{Clear}
 use Rattle.clause_search.specs.declared.learnt.Learnt.{Learnt}
 use Rattle.clause_search.specs.declared.learnt.Learnt.TheVariants.{Clause, Top, Spent}
-use Rattle.clause_search.specs.Marks.{lit_at, mark_at, IsSeen, IsMarked, AreMarks, AreCovered, MarksCauses, FindsPoint, IsPoint, ResolvesFrom}
-use Rattle.clause_search.specs.Runs.{IsAim, IsReady, AreKept, IsBackLevel}
+use Rattle.clause_search.specs.Marks.{mark_at, IsSeen, IsMarked, AreMarks, AreCovered, MarksCauses, FindsPoint, IsPoint, ResolvesFrom}
+use Rattle.clause_search.specs.Runs.{IsReady, AreKept, IsBackLevel}
 use Rattle.clause_search.specs.Learnt.{IsLearnt, IsTop, WasCounted, Concludes, Teaches}
-use Rattle.clause_search.proofs.MarkLaws.{same_clause, marks_grow, grows_keeps, cause_inner, all_covered_keeps}
+use Rattle.clause_search.proofs.MarkLaws.{same_clause, marks_grow, cause_inner, all_covered_keeps}
 use Rattle.clause_search.proofs.ReasonLaws.{level_end_within}
-use Rattle.clause_search.proofs.AimLaws.{aim_above, ready_where_kept, ready_where_none}
+use Rattle.clause_search.proofs.AimLaws.{ready_where_kept, ready_where_none}
 use Rattle.clause_search.proofs.LearntLaws.{ends_rise, conflict_seen, kept_fresh, kept_clause, kept_atoms, kept_asserts}
 
 pub among_store : (store : List (List Lit)) (number : ℕ) (clause : List Lit) → slice_get store number ≡ Some clause → Contains store clause

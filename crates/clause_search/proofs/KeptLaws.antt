@@ -1,5 +1,5 @@
 -- The literals that are kept, and their levels.
-use Rattle.std.proofs.Common.{◌≡◌, ℕ, ◌+◌, ◌-◌, ◌<◌, ◌≤◌, List, [], ◌∷◌, ◌++◌, length, get_or, map, All, AllPairs, refl, sym, ap, ◌∙◌, subst, inl, inr, ⊎_elim, arith}
+use Rattle.std.proofs.Common.{◌≡◌, ℕ, ◌+◌, ◌-◌, ◌<◌, ◌≤◌, List, [], ◌∷◌, ◌++◌, length, get_or, All, refl, sym, ap, ◌∙◌, subst, inl, inr, ⊎_elim, arith}
 use Rattle.std.specs.Prelude.{Contains}
 use Rattle.std.proofs.lemmas.Bool.{cases_lt}
 use Rattle.std.proofs.lemmas.List.{map-append, get_or_past, get_or_default}
@@ -7,10 +7,10 @@ use Rattle.std.proofs.lemmas.List.Elements.{All-push, All-weaker, Contains-appen
 use Rattle.std.proofs.lemmas.List.Quantifiers.{all_pairs_push}
 use Rattle.mix_system.specs.declared.literal.Lit.{Lit}
 use Rattle.mix_system.specs.Lit.{negation}
-use Rattle.bound_trail.specs.Trail.{Trail, level_end, IsTrail}
+use Rattle.bound_trail.specs.Trail.{Trail, level_end}
 use Rattle.clause_search.specs.declared.marks.Mark.{Mark}
 use Rattle.clause_search.specs.Marks.{lit_at, IsSeen}
-use Rattle.clause_search.specs.Runs.{AreKept, IsLevelOf, IsLastSeen, IsBackLevel}
+use Rattle.clause_search.specs.Runs.{AreKept, IsLevelOf, IsBackLevel}
 
 abbrev IsKept : List Mark → ℕ → ℕ → Type 0
 IsKept marks at place = IsSeen marks place × (place < at)

@@ -1,5 +1,5 @@
 -- Which two literals of a clause became false last.
-use Rattle.std.proofs.Common.{◌≡◌, ◌≢◌, ◌⊎◌, ◌↔◌, ℕ, ◌+◌, ◌^◌, ◌<◌, ◌≤◌, List, length, get_or, max, sym, ◌∙◌, subst, inl, inr, ⊎_elim, arith}
+use Rattle.std.proofs.Common.{◌≡◌, ◌≢◌, ◌↔◌, ℕ, ◌+◌, ◌^◌, ◌<◌, ◌≤◌, List, length, get_or, sym, subst, inl, inr, ⊎_elim, arith}
 use Rattle.std.specs.List.{HoldsAt}
 use Rattle.std.proofs.lemmas.Bool.{cases_lt}
 use Rattle.std.proofs.lemmas.List.{get_or_default}
@@ -9,7 +9,6 @@ use Rattle.mix_system.specs.Bounds.{IsFalseIn}
 use Rattle.clause_search.specs.Settled.{IsSettled}
 use Rattle.clause_search.specs.Watched.{AreLeft, Stands}
 use Rattle.clause_search.specs.Visited.{AreFalseBut, IsLatest}
-use Rattle.clause_search.specs.declared.pairs.Pair.{Pair}
 use Rattle.clause_search.specs.declared.pairs.Latest.{Latest}
 
 -- the literal at a place isn't false

@@ -1,28 +1,25 @@
 -- Why what is learnt is new, and on which levels its literals became false.
-use Rattle.std.proofs.Common.{◌≡◌, ◌≢◌, ◌⊎◌, ℕ, zero, suc, ◌+◌, ◌-◌, ◌<◌, ◌≤◌, List, [], ◌∷◌, ◌++◌, length, length-append, get_or, map, take, Some, All, Any, AllPairs, refl, sym, ap, ◌∙◌, subst, inl, inr, ⊎_elim, arith}
-use Rattle.std.specs.Prelude.{slice_get, Contains}
-use Rattle.std.specs.List.{HoldsAt}
-use Rattle.std.proofs.lemmas.Bool.{cases_lt, cases_eq}
+use Rattle.std.proofs.Common.{◌≡◌, ◌⊎◌, ℕ, zero, suc, ◌+◌, ◌-◌, ◌<◌, ◌≤◌, List, [], ◌∷◌, ◌++◌, length, get_or, map, take, All, Any, AllPairs, refl, sym, ap, ◌∙◌, subst, inl, inr, ⊎_elim, arith}
+use Rattle.std.specs.Prelude.{Contains}
+use Rattle.std.proofs.lemmas.Bool.{cases_lt}
 use Rattle.std.proofs.lemmas.List.{get_or_default, get_or_past, get_or-map, get_or-take, length-map, length-take-le, take_more, take_all, map-append, append-nil}
 use Rattle.std.proofs.lemmas.List.Elements.{All-contains, All-contains_itself, All-map, Contains-append_left, Contains-append_right, Contains-push_cases}
-use Rattle.std.proofs.lemmas.Option.{slice_get_within, get_or_from_slice_get}
 use Rattle.mix_system.specs.declared.literal.Lit.{Lit}
-use Rattle.mix_system.specs.Lit.{negation, atom}
+use Rattle.mix_system.specs.Lit.{negation}
 use Rattle.mix_system.specs.System.{IsClause, IsInner, Exists}
-use Rattle.mix_system.specs.Bounds.{Entails, IsIn, IsFalseIn, range_bounds, unit_bounds, only_literal}
-use Rattle.mix_system.specs.Follows.{LeavesNone, LeavesOne}
-use Rattle.mix_system.proofs.AnyLaws.{Any-from_contained, Any-with_all, Any-one_holds}
+use Rattle.mix_system.specs.Bounds.{Entails, IsIn, IsFalseIn, unit_bounds}
+use Rattle.mix_system.specs.Follows.{LeavesNone}
+use Rattle.mix_system.proofs.AnyLaws.{Any-one_holds}
 use Rattle.mix_system.proofs.BoundLaws.{IsIn-none, IsIn-cons_cases, IsIn-entailed, negation-twice, atom-negation}
 use Rattle.bound_trail.specs.Edges.{blank_lit}
-use Rattle.bound_trail.specs.Trail.{Trail, box, box_with, box_at, level_end, BecameFalse, IsCause, IsTrail}
-use Rattle.bound_trail.proofs.TrailLaws.{box_is}
-use Rattle.bound_trail.proofs.EntailmentLaws.{entails_itself, falsifies_each_other}
+use Rattle.bound_trail.specs.Trail.{Trail, box, box_with, box_at, level_end, BecameFalse, IsTrail}
+use Rattle.bound_trail.proofs.EntailmentLaws.{entails_itself}
 use Rattle.bound_trail.proofs.BoxLaws.{in_more, in_box, in_put, in_ranges, consistent_box}
-use Rattle.clause_search.specs.Settled.{HasTrue, LeavesTwo, IsSettled}
+use Rattle.clause_search.specs.Settled.{HasTrue, IsSettled}
 use Rattle.clause_search.specs.Search.{Search, WasQuiet, present_level}
 use Rattle.clause_search.specs.Stored.{AreClauses}
-use Rattle.clause_search.specs.Marks.{lit_at, AreMarks, IsSeen, IsMarked, IsCovered, AreCovered, IsLowest, IsPoint}
-use Rattle.clause_search.specs.Runs.{IsLevelOf, IsLastSeen, IsBackLevel, AreKept}
+use Rattle.clause_search.specs.Marks.{lit_at, AreMarks, IsSeen, IsMarked, AreCovered, IsLowest, IsPoint}
+use Rattle.clause_search.specs.Runs.{IsLevelOf, IsBackLevel, AreKept}
 use Rattle.clause_search.specs.Learnt.{HasKnownAtom, BecameFalseBy, IsAsserting}
 use Rattle.clause_search.specs.declared.marks.Mark.{Mark}
 use Rattle.clause_search.proofs.MarkLaws.{seen_is_marked, trail_true}

@@ -1,12 +1,12 @@
 -- What lists of watchers keep when one is put, replaced or taken out.
-use Rattle.std.proofs.Common.{◌≡◌, ◌≢◌, ℕ, ◌+◌, ◌-◌, ◌<◌, ◌≤◌, List, [], ◌∷◌, ◌++◌, length, get_or, set, map, Result, Ok, Err, OnOk, OnErr, refl, sym, ap, ◌∙◌, subst, ⊎_elim, arith}
+use Rattle.std.proofs.Common.{◌≡◌, ◌≢◌, ℕ, ◌+◌, ◌-◌, ◌<◌, List, [], ◌∷◌, ◌++◌, length, get_or, set, map, refl, sym, ap, ◌∙◌, subst, ⊎_elim, arith}
 use Rattle.std.specs.Prelude.{Contains}
 use Rattle.std.proofs.lemmas.Bool.{cases_lt, cases_eq}
-use Rattle.std.proofs.lemmas.List.{get_or-set_same, get_or-set_other, length-set, get_or_default, get_or_append_left, length_push, get_or-map, length-map, map-set, set-get_or}
+use Rattle.std.proofs.lemmas.List.{get_or-set_same, get_or-set_other, length-set, get_or_default, get_or-map, length-map, map-set, set-get_or}
 use Rattle.std.proofs.lemmas.List.Elements.{Contains-push, Contains-append_left}
 use Rattle.clause_search.specs.declared.watch_lists.Watcher.{Watcher}
 use Rattle.clause_search.specs.Watched.{list_at}
-use Rattle.clause_search.specs.Visited.{Adds, KeepsBut, SameBefore, Takes, Replaces}
+use Rattle.clause_search.specs.Visited.{Adds, KeepsBut, Takes, Replaces}
 
 -- one list changes
 pub changed_here : (lists : List (List Watcher)) (list : ℕ) (new : List Watcher) → list < length lists → list_at (set lists list new) list ≡ new

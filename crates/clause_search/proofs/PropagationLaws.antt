@@ -11,7 +11,6 @@ use Rattle.mix_system.specs.Tally.{units, CountsOne}
 use Rattle.mix_system.specs.Bounds.{Entails, IsIn, range_bounds}
 use Rattle.mix_system.specs.Follows.{LeavesOne}
 use Rattle.bound_trail.specs.Trail.{box, IsOpen}
-use Rattle.clause_search.specs.Settled.{IsSettled}
 use Rattle.clause_search.specs.Looks.{IsImplied}
 use Rattle.clause_search.specs.Search.{Search, IsImpliedAt, Propagated}
 use Rattle.clause_search.specs.Passed.{IsSettledAt}

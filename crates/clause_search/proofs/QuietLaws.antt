@@ -1,18 +1,16 @@
 -- What was settled at the ends of lower levels stays so while the search goes on.
-use Rattle.std.proofs.Common.{◌≡◌, ◌⊎◌, ℕ, suc, ◌+◌, ◌-◌, ◌<◌, ◌≤◌, List, [], ◌∷◌, ◌++◌, length, length-append, get_or, take, Some, All, Any, refl, sym, ap, ◌∙◌, subst, inl, inr, ⊎_elim, arith}
-use Rattle.std.specs.List.{HoldsAt}
+use Rattle.std.proofs.Common.{◌≡◌, ℕ, suc, ◌+◌, ◌-◌, ◌<◌, ◌≤◌, List, [], ◌∷◌, ◌++◌, length, length-append, get_or, take, All, refl, sym, ap, ◌∙◌, subst, inr, ⊎_elim, arith}
 use Rattle.std.proofs.lemmas.Bool.{cases_lt}
-use Rattle.std.proofs.lemmas.List.{get_or_append_left, get_or-append_right, get_or_push, get_or_at, get_or_default, get_or-take, take-append-le, take-take, take_at, length_push, length-take-le, get_or_past}
-use Rattle.std.proofs.lemmas.List.Elements.{All-push, All-contains, All-contains_itself}
+use Rattle.std.proofs.lemmas.List.{get_or_append_left, get_or-append_right, get_or_push, get_or_at, get_or_default, get_or-take, take-append-le, take-take, take_at, length_push, length-take-le}
+use Rattle.std.proofs.lemmas.List.Elements.{All-push}
 use Rattle.mix_system.specs.declared.literal.Lit.{Lit}
 use Rattle.mix_system.specs.declared.tally.Tally.{Tally}
 use Rattle.mix_system.specs.Bounds.{IsFalseIn, range_bounds}
-use Rattle.bound_trail.specs.Edges.{blank_lit}
-use Rattle.bound_trail.specs.Trail.{Trail, box, box_with, box_at, level_end, BecameFalse, IsTrail}
-use Rattle.clause_search.specs.Settled.{IsLeftAt, LeavesTwo, IsSettled}
+use Rattle.bound_trail.specs.Trail.{Trail, box, box_at, level_end, BecameFalse, IsTrail}
+use Rattle.clause_search.specs.Settled.{IsLeftAt, IsSettled}
 use Rattle.clause_search.specs.Search.{Search, WasQuiet, present_level, Propagated}
 use Rattle.clause_search.specs.Decided.{OpensLevel}
-use Rattle.clause_search.specs.Learnt.{BecameFalseBy, IsAsserting}
+use Rattle.clause_search.specs.Learnt.{IsAsserting}
 use Rattle.clause_search.proofs.LearntLaws.{ends_rise}
 
 -- the same bounds at the end of a level, after more literals and levels

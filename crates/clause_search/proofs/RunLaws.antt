@@ -1,22 +1,21 @@
 -- Running hints from the marks beside a trail.
-use Rattle.std.proofs.Common.{◌≡◌, ◌⊎◌, ℕ, ◌+◌, ◌<◌, ◌≤◌, List, [], ◌∷◌, ◌++◌, length, get_or, map, Some, All, Any, refl, sym, ap, ◌∙◌, subst, inl, inr, ⊎_elim, arith}
-use Rattle.std.specs.Prelude.{slice_get, Contains}
+use Rattle.std.proofs.Common.{◌≡◌, ℕ, ◌+◌, ◌<◌, ◌≤◌, List, [], ◌∷◌, ◌++◌, length, get_or, map, Some, All, refl, sym, ap, subst, inl, inr, ⊎_elim, arith}
+use Rattle.std.specs.Prelude.{Contains}
 use Rattle.std.proofs.lemmas.Bool.{cases_lt}
 use Rattle.std.proofs.lemmas.List.Elements.{All-contains, All-contains_itself, Contains-append_left, Contains-append_right}
 use Rattle.mix_system.specs.declared.literal.Lit.{Lit}
 use Rattle.mix_system.specs.Lit.{negation}
-use Rattle.mix_system.specs.Bounds.{Entails, IsIn, IsFalseIn, range_bounds, unit_bounds}
+use Rattle.mix_system.specs.Bounds.{IsIn, IsFalseIn, range_bounds, unit_bounds}
 use Rattle.mix_system.specs.Follows.{Known, LeavesNone, LeavesOne, Propagates, Follows}
-use Rattle.mix_system.proofs.BoundLaws.{IsIn-here, IsIn-first, IsIn-there, IsIn-cons_cases, IsIn-append_left, IsIn-append_right, IsIn-append_cases, IsIn-entailed}
+use Rattle.mix_system.proofs.BoundLaws.{IsIn-here, IsIn-there, IsIn-cons_cases, IsIn-append_left, IsIn-append_right, IsIn-append_cases, IsIn-entailed}
 use Rattle.bound_trail.specs.Edges.{blank_lit}
-use Rattle.bound_trail.specs.Trail.{Trail, box, box_with, IsCause, IsTrail}
+use Rattle.bound_trail.specs.Trail.{box, box_with, IsTrail}
 use Rattle.bound_trail.proofs.BoxLaws.{in_box, consistent_box, in_ranges}
 use Rattle.clause_search.specs.Search.{Search, known, single_bounds}
 use Rattle.clause_search.specs.declared.marks.Mark.{Mark}
-use Rattle.clause_search.specs.declared.marks.Mark.TheVariants.{Clear, Seen, Used}
-use Rattle.clause_search.specs.Marks.{lit_at, mark_at, IsSeen, IsMarked, IsCovered, AreCovered, IsUsed, AreMarks}
+use Rattle.clause_search.specs.Marks.{lit_at, IsSeen, IsMarked, IsCovered, IsUsed}
 use Rattle.clause_search.specs.Runs.{Runs, IsAim, IsReady, HasRun}
-use Rattle.clause_search.proofs.MarkLaws.{marked_within, cause_before, trail_true, false_before}
+use Rattle.clause_search.proofs.MarkLaws.{cause_before, trail_true}
 
 -- one more hint
 pub runs_push : (known : Known) (first mid : List Lit) (hints : List ℕ) (hint : ℕ) (clause : List Lit) (lit : Lit) → known hint ≡ Some clause → LeavesOne mid clause lit → Runs known first hints mid → Runs known first (hints ++ hint ∷ []) (lit ∷ mid)

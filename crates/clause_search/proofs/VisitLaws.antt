@@ -1,5 +1,5 @@
 -- What visits of watchers come to.
-use Rattle.std.proofs.Common.{◌≡◌, ◌≢◌, ◌⊎◌, ℕ, suc, ◌+◌, ◌*◌, ◌<◌, ◌≤◌, List, [], ◌∷◌, ◌++◌, length, length-append, get_or, set, take, Option, Some, None, All, Any, refl, sym, ap, ◌∙◌, subst, inl, inr, ⊎_elim, arith}
+use Rattle.std.proofs.Common.{◌≡◌, ◌≢◌, ◌⊎◌, ℕ, suc, ◌+◌, ◌<◌, ◌≤◌, List, ◌++◌, length, length-append, get_or, set, Some, refl, sym, ap, ◌∙◌, subst, inl, inr, ⊎_elim, arith}
 use Rattle.std.specs.Prelude.{slice_get, Contains}
 use Rattle.std.specs.List.{HoldsAt}
 use Rattle.std.proofs.lemmas.Bool.{cases_lt, cases_eq}
@@ -14,17 +14,17 @@ use Rattle.mix_system.specs.Lit.{other_side, negation}
 use Rattle.mix_system.specs.Bounds.{Entails, IsIn, IsFalseIn, range_bounds}
 use Rattle.mix_system.proofs.WellFormedLaws.{All-slice_get}
 use Rattle.bound_trail.specs.Edges.{place_of, blank_lit}
-use Rattle.bound_trail.specs.Trail.{Trail, box, box_with, box_at, IsTrail}
+use Rattle.bound_trail.specs.Trail.{box, box_with, box_at}
 use Rattle.bound_trail.proofs.AnywhereLaws.{any_at}
 use Rattle.bound_trail.proofs.EdgeLaws.{same_place}
 use Rattle.bound_trail.proofs.TrailEdgeLaws.{more_cases}
 use Rattle.bound_trail.proofs.BoxLaws.{in_box}
-use Rattle.clause_search.specs.Search.{Search, present_level, Propagated}
+use Rattle.clause_search.specs.Search.{Search, Propagated}
 use Rattle.clause_search.specs.Settled.{IsLeftAt, HasTrue, IsSettled}
 use Rattle.clause_search.specs.Stored.{AreClauses}
 use Rattle.clause_search.specs.Passed.{IsSettledAt}
-use Rattle.clause_search.specs.Watched.{list_at, lit_of, watcher_of, IsListed, AreLeft, Stands, IsWatched, AreWatched, IsRight}
-use Rattle.clause_search.specs.Visited.{AreFalseBut, Adds, KeepsBut, Takes, Replaces, Moves, IsOther, IsPartner, IsDone, AreDone, IsVisiting, Goes, Visits, watched_lit}
+use Rattle.clause_search.specs.Watched.{list_at, lit_of, watcher_of, IsListed, AreLeft, IsWatched, AreWatched, IsRight}
+use Rattle.clause_search.specs.Visited.{AreFalseBut, KeepsBut, Moves, IsOther, IsPartner, IsDone, AreDone, IsVisiting, Goes, Visits, watched_lit}
 use Rattle.clause_search.specs.declared.pairs.Pair.{Pair}
 use Rattle.clause_search.specs.declared.watch_lists.Watcher.{Watcher}
 use Rattle.clause_search.specs.declared.watches.Watches.{Watches}

@@ -1,10 +1,9 @@
 -- What is known of watched clauses stays so while the search goes on.
-use Rattle.std.proofs.Common.{◌≡◌, ◌≢◌, ◌⊎◌, ℕ, suc, ◌+◌, ◌-◌, ◌*◌, ◌<◌, ◌≤◌, List, [], ◌∷◌, ◌++◌, length, length-append, get_or, set, take, Option, Some, None, Result, Ok, Err, OnOk, OnErr, All, Any, refl, sym, ap, ◌∙◌, subst, inl, inr, ⊎_elim, arith}
+use Rattle.std.proofs.Common.{◌≡◌, ◌≢◌, ◌⊎◌, ℕ, ◌+◌, ◌-◌, ◌*◌, ◌<◌, ◌≤◌, List, [], ◌∷◌, ◌++◌, length, length-append, get_or, set, take, Some, Result, Ok, Err, OnOk, OnErr, All, refl, sym, ap, ◌∙◌, subst, inl, inr, ⊎_elim, arith}
 use Rattle.std.specs.Prelude.{slice_get, Contains}
-use Rattle.std.specs.List.{HoldsAt}
-use Rattle.std.proofs.lemmas.Bool.{cases_lt, cases_eq}
+use Rattle.std.proofs.lemmas.Bool.{cases_lt}
 use Rattle.bound_trail.specs.Edges.{place_of, blank_lit}
-use Rattle.std.proofs.lemmas.List.{get_or_append_left, get_or_push, get_or_default, get_or-set_same, get_or-set_other, length-set, length_push, length-take-le, take-append-le, take-take, take_at, get_or_past}
+use Rattle.std.proofs.lemmas.List.{get_or_append_left, get_or_push, get_or_default, length_push, length-take-le, take-append-le, take-take, take_at, get_or_past}
 use Rattle.std.proofs.lemmas.Option.{slice_get_within, slice_get-get_or, get_or_from_slice_get}
 use Rattle.mix_system.specs.declared.literal.Lit.{Lit}
 use Rattle.mix_system.specs.declared.tally.Tally.{Tally}
@@ -17,7 +16,7 @@ use Rattle.bound_trail.proofs.BoxLaws.{in_more, in_box}
 use Rattle.clause_search.specs.Search.{Search, present_level, Propagated}
 use Rattle.clause_search.specs.Settled.{IsLeftAt, LeavesTwo, HasTrue, IsSettled}
 use Rattle.clause_search.specs.Watched.{list_at, lit_of, watcher_of, IsListed, AreListed, AreLeft, Stands, IsWatched, AreWatched}
-use Rattle.clause_search.specs.Visited.{Adds, KeepsBut, IsOther, IsNeither, IsDone, AreDone}
+use Rattle.clause_search.specs.Visited.{Adds, KeepsBut, IsNeither}
 use Rattle.clause_search.specs.declared.pairs.Pair.{Pair}
 use Rattle.clause_search.specs.declared.watch_lists.Watcher.{Watcher}
 use Rattle.clause_search.proofs.LearntLaws.{ends_rise}

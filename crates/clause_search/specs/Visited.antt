@@ -1,5 +1,5 @@
 -- What a look at a watcher comes to, and what is known of those that were looked at.
-use Rattle.std.specs.Prelude.{◌≡◌, ◌≢◌, ◌⊎◌, ℕ, ◌+◌, ◌*◌, ◌^◌, ◌<◌, ◌≤◌, max, ℤ, List, [], ◌∷◌, length, slice_get, slice_index_or, Option, Some, None, Contains}
+use Rattle.std.specs.Prelude.{◌≡◌, ◌≢◌, ◌⊎◌, ℕ, ◌+◌, ◌^◌, ◌<◌, ◌≤◌, max, ℤ, List, length, slice_get, slice_index_or, Option, Some, None, Contains}
 use Rattle.std.specs.List.{HoldsAt}
 use Rattle.mix_system.specs.declared.literal.Lit.{Lit}
 use Rattle.mix_system.specs.declared.tally.Tally.{Tally}
@@ -8,7 +8,7 @@ use Rattle.mix_system.specs.System.{Exists}
 use Rattle.bound_trail.specs.Edges.{place_of}
 use Rattle.bound_trail.specs.Trail.{box, box_with}
 use Rattle.clause_search.specs.Search.{Search, Propagated}
-use Rattle.clause_search.specs.Settled.{IsLeftAt, HasTrue}
+use Rattle.clause_search.specs.Settled.{HasTrue}
 use Rattle.clause_search.specs.Answers.{Says}
 use Rattle.clause_search.specs.Watched.{list_at, IsRight}
 use Rattle.clause_search.specs.declared.pairs.Pair.{Pair}

@@ -1,5 +1,5 @@
 -- Which literals of the clauses are watched, and what is known of them.
-use Rattle.std.specs.Prelude.{◌≡◌, ◌≢◌, ◌⊎◌, ℕ, ◌+◌, ◌*◌, ◌<◌, ◌≤◌, List, [], length, slice_get, slice_index_or, Option, Some, Contains}
+use Rattle.std.specs.Prelude.{◌≡◌, ◌≢◌, ◌⊎◌, ℕ, ◌+◌, ◌*◌, ◌<◌, ◌≤◌, List, [], length, slice_get, slice_index_or, Some, Contains}
 use Rattle.mix_system.specs.declared.literal.Lit.{Lit}
 use Rattle.bound_trail.specs.Edges.{place_of, blank_lit}
 use Rattle.bound_trail.specs.Trail.{box, box_with, box_at}

@@ -1,10 +1,10 @@
-use Rattle.std.proofs.Common.{◌≡◌, ◌∷◌, [], ◌∙◌, length, get_or, sym, ap, subst, arith}
+use Rattle.std.proofs.Common.{◌≡◌, ◌∙◌, length, get_or, sym, ap, subst, arith}
 use Rattle.std.proofs.lemmas.Bool.{false≢true}
 use Rattle.mix_system.specs.Bounds.{IsFalseIn, range_bounds}
 use Rattle.bound_trail.specs.Edges.{blank_lit}
 use Rattle.bound_trail.specs.Trail.{Trail, IsCause}
 use Rattle.clause_search.specs.Runs.{IsAimSoFar}
-use Rattle.clause_search.proofs.AimLaws.{aim_first, aim_end, aim_long, aim_lower, aim_later, aim_not_false, aim_at_once, single_is, one_is}
+use Rattle.clause_search.proofs.AimLaws.{aim_first, aim_end, aim_lower, aim_later, aim_not_false, aim_at_once, one_is}
 use Rattle.clause_search.proofs.clause_trail.ClauseTrail.aim.Goals as goal
 
 pub loop-at-init : goal.loop-at-init

@@ -1,4 +1,4 @@
-use Rattle.std.proofs.Common.{◌≡◌, ◌-◌, ◌<◌, ◌∙◌, length, sym, arith}
+use Rattle.std.proofs.Common.{◌-◌, ◌<◌, ◌∙◌, length, sym, arith}
 use Rattle.std.proofs.lemmas.List.{get_or_read}
 use Rattle.clause_search.specs.declared.marks.Mark.TheVariants.{Clear}
 use Rattle.clause_search.proofs.KeptLaws.{back_skip, back_found, back_none}

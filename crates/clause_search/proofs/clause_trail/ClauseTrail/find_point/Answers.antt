@@ -1,6 +1,6 @@
 use Rattle.std.proofs.Common.{◌≡◌, ◌-◌, ◌<◌, ◌∙◌, length, ap, sym, subst, arith}
 use Rattle.std.proofs.lemmas.List.{get_or_read}
-use Rattle.clause_search.specs.Marks.{IsSeen, IsSearching}
+use Rattle.clause_search.specs.Marks.{IsSearching}
 use Rattle.clause_search.specs.declared.marks.Mark.TheVariants.{Clear}
 use Rattle.clause_search.proofs.MarkLaws.{searching_first, searching_skip, searching_resolved, searching_ends, not_level_behind}
 use Rattle.clause_search.proofs.clause_trail.ClauseTrail.find_point.Goals as goal

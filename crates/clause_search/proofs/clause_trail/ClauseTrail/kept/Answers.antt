@@ -1,8 +1,7 @@
-use Rattle.std.proofs.Common.{◌≡◌, ◌<◌, ◌∙◌, length, sym, arith}
+use Rattle.std.proofs.Common.{◌<◌, ◌∙◌, length, sym, arith}
 use Rattle.std.proofs.lemmas.List.{get_or_read}
 use Rattle.clause_search.specs.declared.marks.Mark.TheVariants.{Clear}
-use Rattle.clause_search.proofs.MarkLaws.{seen_is_marked}
-use Rattle.clause_search.proofs.KeptLaws.{kept_none, kept_skip, kept_push, kept_end}
+use Rattle.clause_search.proofs.KeptLaws.{kept_none, kept_skip, kept_push}
 use Rattle.clause_search.proofs.clause_trail.ClauseTrail.kept.Goals as goal
 
 pub loop-at-init : goal.loop-at-init

@@ -1,4 +1,4 @@
-use Rattle.std.proofs.Common.{◌≡◌, ◌<◌, ◌∙◌, length, get_or, sym, ap, arith}
+use Rattle.std.proofs.Common.{◌≡◌, ◌∙◌, length, get_or, sym, ap, arith}
 use Rattle.std.proofs.lemmas.List.{get_or_default}
 use Rattle.clause_search.proofs.KeptLaws.{level_found, level_more, level_last}
 use Rattle.clause_search.proofs.clause_trail.ClauseTrail.level_of.Goals as goal

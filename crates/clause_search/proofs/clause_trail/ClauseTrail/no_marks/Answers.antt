@@ -1,4 +1,4 @@
-use Rattle.std.proofs.Common.{◌≡◌, ◌∙◌, length, replicate, ap, arith}
+use Rattle.std.proofs.Common.{◌≡◌, ◌∙◌, length, replicate, ap}
 use Rattle.std.proofs.lemmas.List.{length-replicate}
 use Rattle.clause_search.specs.declared.marks.Mark.TheVariants.{Clear}
 use Rattle.clause_search.proofs.MarkLaws.{marks_none, all_clear}

@@ -6,7 +6,7 @@ use Rattle.mix_system.specs.Follows.{LeavesNone}
 use Rattle.bound_trail.specs.Trail.{Trail, box}
 use Rattle.clause_search.specs.Settled.{IsUnit}
 use Rattle.clause_search.specs.Looks.{IsImplied}
-use Rattle.clause_search.proofs.PropagationLaws.{all_left, implied_open, any_at_number, propagated_one, propagated_none, settled_implied}
+use Rattle.clause_search.proofs.PropagationLaws.{all_left, implied_open, any_at_number, propagated_one, settled_implied}
 use Rattle.clause_search.proofs.clause_trail.ClauseTrail.settle.Goals as goal
 
 pub returns-then-not-tick-clause-settles : goal.returns-then-not-tick-clause-settles

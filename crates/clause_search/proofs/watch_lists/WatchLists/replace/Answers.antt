@@ -1,10 +1,9 @@
-use Rattle.std.proofs.Common.{◌≡◌, ◌+◌, ◌<◌, [], ◌∷◌, ◌++◌, length, map, set, get_or, OnErr, OnOk, Vec, Global, ℕ, List, ap, sym, subst, ◌∙◌, arith}
+use Rattle.std.proofs.Common.{◌≡◌, set, Vec, Global, List, ap, sym, subst, ◌∙◌}
 use Rattle.std.specs.Vec.{with_item}
-use Rattle.std.proofs.lemmas.Result.{err_from_is_err_and}
 use Rattle.clause_search.specs.declared.watch_lists.Watcher.{Watcher}
 use Rattle.clause_search.specs.Watched.{list_at}
-use Rattle.clause_search.specs.Visited.{Takes, Replaces}
-use Rattle.clause_search.proofs.ListedLaws.{IsTaken, here_is, changed_view, changed_other, same_list, taken_by, takes, replaces}
+use Rattle.clause_search.specs.Visited.{Replaces}
+use Rattle.clause_search.proofs.ListedLaws.{here_is, changed_view, replaces}
 use Rattle.clause_search.proofs.watch_lists.WatchLists.replace.Goals as goal
 
 abbrev items : Vec Watcher Global → List Watcher

@@ -1,14 +1,5 @@
-use Rattle.std.proofs.Common.{◌∙◌, ap, List, arith, rules, ◌≡◌, ◌≢◌, ◌+◌, ◌*◌, ◌<◌, ◌≤◌, length, take, slice_get, slice_index_or, slice_set, Some, All, IfOk, OnOk, OnErr, MatchOption, ℕ, ◌-◌, ◌/◌, ◌%◌, Bool, true, false, nat_eq, nat_lt, List, [], ◌∷◌, ◌++◌, bit_and, bit_or, Fits, w8, w32, w64, Bor, MutBor}
-use Rattle.mix_system.specs.System.{IsInner, Exists}
-use Rattle.bound_trail.specs.Trail.{Trail, box, level_end, IsOpen, IsTrail}
-use Rattle.clause_search.specs.Search.{Propagated}
-use Rattle.clause_search.specs.Settled.{IsLeftAt}
-use Rattle.clause_search.specs.Answers.{Says}
-use Rattle.clause_search.specs.Decided.{Decides}
-use Rattle.clause_search.specs.Passed.{IsSettledAt}
-use Rattle.clause_search.specs.Watched.{list_at, IsListed, IsRight}
-use Rattle.clause_search.specs.Visited.{AreFalseBut, IsPartner, IsStale, Adds, Moves, IsVisiting, Goes, Visits, Works, Looks}
-use Rattle.std.specs.List.{HoldsAt}
+use Rattle.std.proofs.Common.{◌∙◌, ap, List, arith, ◌≡◌, length, ℕ, List}
+use Rattle.bound_trail.specs.Trail.{Trail, level_end, IsTrail}
 use Rattle.mix_system.specs.declared.literal.Lit.{Lit}
 use Rattle.std.proofs.lemmas.List.{length-take-le}
 use Rattle.clause_search.proofs.ReasonLaws.{level_end_within}

@@ -1,17 +1,9 @@
-use Rattle.std.proofs.Common.{◌∙◌, ap, refl, sym, subst, inl, inr, arith, rules, ◌≡◌, ◌≢◌, ◌+◌, ◌*◌, ◌<◌, ◌≤◌, length, take, slice_get, slice_index_or, slice_set, Some, All, IfOk, OnOk, OnErr, MatchOption, ℕ, ◌-◌, ◌/◌, ◌%◌, Bool, true, false, nat_eq, nat_lt, List, [], ◌∷◌, ◌++◌, bit_and, bit_or, Fits, w8, w32, w64, Bor, MutBor}
-use Rattle.mix_system.specs.System.{IsInner, Exists}
-use Rattle.bound_trail.specs.Trail.{box, level_end, IsOpen}
-use Rattle.clause_search.specs.Search.{Search, Propagated, present_level}
-use Rattle.clause_search.specs.Settled.{IsLeftAt}
-use Rattle.clause_search.specs.Answers.{Says}
+use Rattle.std.proofs.Common.{◌∙◌, ap, refl, sym, subst, inl, inr, arith, ◌≡◌, ◌+◌, length}
+use Rattle.clause_search.specs.Search.{Search, present_level}
 use Rattle.clause_search.specs.Decided.{OpensLevel, Decides}
-use Rattle.clause_search.specs.Passed.{IsSettledAt}
-use Rattle.clause_search.specs.Watched.{list_at, IsListed, AreWatched, IsRight}
-use Rattle.clause_search.specs.Visited.{AreFalseBut, IsPartner, IsStale, Adds, Moves, IsVisiting, Goes, Visits, Works, Looks}
-use Rattle.std.specs.List.{HoldsAt}
+use Rattle.clause_search.specs.Watched.{AreWatched}
 use Rattle.std.proofs.lemmas.List.{length_push}
 use Rattle.clause_search.proofs.WatchLaws.{watched_decided}
-use Rattle.clause_search.proofs.VisitLaws.{watched_worked}
 use Rattle.clause_search.proofs.watches.Watches.decide.Goals as goal
 
 pub returns-then-self-end-clause-right : goal.returns-then-self-end-clause-right

@@ -1,14 +1,6 @@
-use Rattle.std.proofs.Common.{◌∙◌, ap, set, sym, subst, [], ◌∷◌, ◌++◌, rules, ◌≡◌, ◌≢◌, ◌+◌, ◌*◌, ◌<◌, ◌≤◌, length, take, slice_get, slice_index_or, slice_set, Some, All, IfOk, OnOk, OnErr, MatchOption, ℕ, ◌-◌, ◌/◌, ◌%◌, Bool, true, false, nat_eq, nat_lt, List, [], ◌∷◌, ◌++◌, bit_and, bit_or, Fits, w8, w32, w64, Bor, MutBor}
-use Rattle.mix_system.specs.System.{IsInner, Exists}
-use Rattle.bound_trail.specs.Trail.{box, level_end, IsOpen}
-use Rattle.clause_search.specs.Search.{Propagated}
-use Rattle.clause_search.specs.Settled.{IsLeftAt}
-use Rattle.clause_search.specs.Answers.{Says}
-use Rattle.clause_search.specs.Decided.{Decides}
-use Rattle.clause_search.specs.Passed.{IsSettledAt}
-use Rattle.clause_search.specs.Watched.{list_at, IsListed, IsRight}
-use Rattle.clause_search.specs.Visited.{AreFalseBut, IsPartner, IsStale, Adds, Moves, IsVisiting, Goes, Visits, Works, Looks}
-use Rattle.std.specs.List.{HoldsAt}
+use Rattle.std.proofs.Common.{◌∙◌, ap, set, sym, subst, [], ◌∷◌, ◌++◌, ◌≡◌, ◌≢◌, [], ◌∷◌, ◌++◌}
+use Rattle.clause_search.specs.Watched.{list_at}
+use Rattle.clause_search.specs.Visited.{Adds}
 use Rattle.std.specs.Prelude.{Contains}
 use Rattle.clause_search.proofs.ListedLaws.{adds_put, put_there, takes_after, changed_other}
 use Rattle.clause_search.proofs.watches.Watches.move_to.Goals as goal
