@@ -1,0 +1,5 @@
+pub mod AllowedLaws
+pub mod KeptLaws
+pub mod LocalLaws
+pub mod LogLaws
+pub mod TurnLaws

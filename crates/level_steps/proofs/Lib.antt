@@ -1,0 +1,5 @@
+pub mod AlikeLaws
+pub mod MoreLaws
+pub mod PointLaws
+pub mod RaiseLaws
+pub mod WholeLaws
