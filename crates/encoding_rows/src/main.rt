@@ -2,12 +2,9 @@
 //! rows are the file `stdin`, and what they give, found by hand, is the file `stdout`.
 #![tactic(auto)]
 
-mod costs;
-mod function;
 mod portions;
 mod texts;
 
-use crate::function::{Asked, function_row};
 use std::alloc::Global;
 use std::io;
 use wx_base::NoMemory;
@@ -15,8 +12,7 @@ use wx_base::NoMemory;
 // What a row gives: its first word says which call it is.
 fn answer(alloc: Global, of: &str, call: &str) -> Result<String, NoMemory> {
     match of {
-        "portions" => function_row(alloc, Asked::Portions, call),
-        "rows" => function_row(alloc, Asked::Rows, call),
+        "portions" => portions::portions_row(alloc, call),
         _ => texts::no_row(alloc),
     }
 }

@@ -2,15 +2,44 @@
 
 ghost use Rattle.sound_costs.specs.Costs.{AreCostsOf};
 
+use crate::texts::{MOST, no_row, plain};
 use ll_links::Position;
-use ll_verifier::Sound;
+use ll_reader::read;
+use ll_verifier::{Sound, verify};
 use portion_cuts::{Portion, longest, portions};
-use sound_costs::Costs;
+use sound_costs::{Costs, read_costs};
 use std::alloc::Global;
-use wx_base::NoMemory;
+use wx_base::{Name, NoMemory};
 
-/// Each portion with its longest, and that of all positions.
-pub fn portions_text(alloc: Global, sound: &Sound, costs: &Costs) -> Result<String, NoMemory>
+/// `portions FUNCTION|TABLE`: each portion of the function `f` with its longest, and that of all
+/// positions.
+pub fn portions_row(alloc: Global, call: &str) -> Result<String, NoMemory> {
+    let (text, table) = call.split_once('|').unwrap_or((call, ""));
+    let text = plain(alloc, text)?;
+    let table = plain(alloc, table)?;
+    if text.len() > MOST || table.len() > MOST {
+        return no_row(alloc);
+    }
+    let Ok(func) = read(alloc, &text, &Name::new(alloc, b"f")?) else {
+        return Ok(String::from_str(alloc, "not read")?);
+    };
+    match verify(alloc, func) {
+        Ok(sound) => costed(alloc, &sound, &table),
+        Err(_) => Ok(String::from_str(alloc, "not kept")?),
+    }
+}
+
+fn costed(alloc: Global, sound: &Sound, table: &[u8]) -> Result<String, NoMemory> {
+    if table.len() > MOST {
+        return no_row(alloc);
+    }
+    match read_costs(alloc, table, sound) {
+        Ok(costs) => portions_text(alloc, sound, &costs),
+        Err(_) => Ok(String::from_str(alloc, "no table")?),
+    }
+}
+
+fn portions_text(alloc: Global, sound: &Sound, costs: &Costs) -> Result<String, NoMemory>
     requires { AreCostsOf sound.now.func costs.now }
 {
     let mut line = String::new(alloc);
