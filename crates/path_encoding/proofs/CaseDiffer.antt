@@ -1,9 +1,9 @@
 -- The cases of a switch have different numbers.
-use Rattle.std.proofs.Common.{◌≡◌, ◌||◌, ⊎_elim, ℕ, eqb, Bool, true, false, cond, List, [], ◌∷◌, ◌++◌, map, length, Option, Some, None, append_assoc, refl, sym, ◌∙◌, ap, subst, arith}
+use Rattle.std.proofs.Common.{◌≡◌, ◌||◌, ⊎_elim, ℕ, eqb, Bool, true, false, cond, List, [], ◌∷◌, ◌++◌, map, length, Option, Some, None, append_assoc, refl, sym, ◌∙◌, ap, subst}
 use Rattle.std.specs.Prelude.{is_some}
 use Rattle.std.specs.Map.{lookup}
-use Rattle.std.specs.List.{Contains, list_any}
-use Rattle.std.proofs.lemmas.Bool.{true≢false, cond_both}
+use Rattle.std.specs.List.{Contains}
+use Rattle.std.proofs.lemmas.Bool.{true≢false}
 use Rattle.std.proofs.lemmas.Bool.Decides.{Decides-eqb}
 use Rattle.std.proofs.lemmas.List.Elements.{All-contains}
 use Rattle.ll_tree.specs.declared.func.Func.{Func}
@@ -14,8 +14,8 @@ use Rattle.ll_items.specs.Sites.{Site, sites_of}
 use Rattle.ll_item_rules.specs.Cases.{has_number, repeated_after, end_repeated}
 use Rattle.ll_flow.proofs.PlaceLaws.{no_item, cons_cases}
 use Rattle.ll_verifier.specs.Rules.{Rules, repeats_case}
-use Rattle.ir_runs.proofs.EntryLaws.{item_site, none_is}
-use Rattle.ir_runs.proofs.MemberLaws.{in_here, in_map}
+use Rattle.ir_runs.proofs.EntryLaws.{item_site}
+use Rattle.ir_runs.proofs.MemberLaws.{in_map}
 use Rattle.ir_runs.proofs.SiteLaws.{site_at}
 
 -- no terminator of a block has a number twice

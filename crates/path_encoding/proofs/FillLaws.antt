@@ -1,6 +1,6 @@
 -- The clauses of a block are true where its variables say how it is left, and where it isn't visited.
-use Rattle.std.proofs.Common.{◌≡◌, ◌<◌, ◌≤◌, ◌&&◌, ◌||◌, ⊎_elim, inl, inr, ◌⊎◌, ℕ, zero, suc, ℤ, pos, ◌≤ℤ◌, ◌<ℤ◌, ◌-ℤ◌, ◌+ℤ◌, eqb, ltb, Bool, true, false, cond, not, List, [], ◌∷◌, ◌++◌, length, map, Option, Some, None, option_map, refl, sym, ◌∙◌, ap, subst, arith}
-use Rattle.std.specs.Prelude.{◌↔◌, unsigned_abs, zip, flat_map}
+use Rattle.std.proofs.Common.{◌≡◌, ◌<◌, ◌≤◌, ◌&&◌, ◌||◌, ⊎_elim, inl, inr, ◌⊎◌, ℕ, ℤ, pos, ◌≤ℤ◌, ◌-ℤ◌, ◌+ℤ◌, eqb, ltb, Bool, true, false, cond, not, List, [], ◌∷◌, ◌++◌, length, map, Option, Some, None, option_map, refl, sym, ◌∙◌, ap, arith}
+use Rattle.std.specs.Prelude.{zip, flat_map}
 use Rattle.std.specs.Option.{unwrap_or}
 use Rattle.std.specs.Map.{lookup}
 use Rattle.std.specs.List.{list_all, list_any, Contains}
@@ -26,22 +26,22 @@ use Rattle.ll_verifier.specs.Sound.{SoundFunc}
 use Rattle.ir_meaning.specs.declared.value.Val.{Val}
 use Rattle.ir_meaning.specs.declared.value.Val.TheVariants.{Poison, Num}
 use Rattle.ir_meaning.specs.Value.{poison_if, on_number}
-use Rattle.ir_runs.specs.Values.{Vals, operand_value, is_in_range, ranged}
-use Rattle.ir_runs.specs.Walk.{Step, Goes, Returns, Fails, branch, choose, give, return_of, end_step, is_one, is_assumed, is_barred}
+use Rattle.ir_runs.specs.Values.{Vals, is_in_range, ranged}
+use Rattle.ir_runs.specs.Walk.{Goes, Returns, branch, choose, give, return_of, end_step, is_one, is_assumed, is_barred}
 use Rattle.ir_runs.specs.declared.ret_val.RetVal.{RetVal}
 use Rattle.ir_runs.proofs.MemberLaws.{in_here, in_there, in_map}
 use Rattle.wrap_rows.specs.declared.vars.ValueVars.{ValueVars}
-use Rattle.wrap_rows.specs.Vars.{IsMark, IsValue, value_at}
+use Rattle.wrap_rows.specs.Vars.{value_at}
 use Rattle.wrap_rows.proofs.CaseLaws.{Each, Some_of, by_test}
 use Rattle.wrap_rows.proofs.BlockLaws.{Clause_here, Each-append, mark_cases}
 use Rattle.path_encoding.specs.declared.spots.PathSpots.{PathSpots}
 use Rattle.path_encoding.specs.Spots.{operand_vars, block_var, place_with, edge_to, cases_of}
-use Rattle.path_encoding.specs.Ends.{is_off, is_on, assume_clauses, not_poison, return_clauses, ranged_clauses, branch_clauses, case_clauses, each_case, default_clause, switch_clauses, end_clauses}
+use Rattle.path_encoding.specs.Ends.{is_off, is_on, assume_clauses, return_clauses, ranged_clauses, branch_clauses, case_clauses, each_case, default_clause, end_clauses}
 use Rattle.path_encoding.specs.PathLayout.{strict_clauses}
 use Rattle.path_encoding.specs.Agree.{Agrees, AllAgree, assume_parts, IsGiven, IsCaseSaid, asked_var}
 use Rattle.path_encoding.proofs.CaseDiffer.{found_case}
 use Rattle.path_encoding.proofs.MemberLaws.{first_in}
-use Rattle.path_encoding.proofs.NumberLaws.{size_of, number_there, mark_off, ranged_true}
+use Rattle.path_encoding.proofs.NumberLaws.{size_of, mark_off, ranged_true}
 
 module _ (it : SoundFunc) (spots : PathSpots) (rows : List (List Part)) (point : List ℤ) where
   abbrev Says : List Lit → Type 0

@@ -1,23 +1,20 @@
 -- The flow rows that are laid.
-use Rattle.std.proofs.Common.{◌≡◌, ◌<◌, ◌≤◌, ◌+◌, ◌-◌, ◌*◌, ℕ, zero, suc, pos, neg_ℤ, Bool, true, false, cond, List, [], ◌∷◌, ◌++◌, length, get_or, map, append-nil, append_assoc, refl, sym, ◌∙◌, ap, subst, arith}
+use Rattle.std.proofs.Common.{◌≡◌, ◌<◌, ◌≤◌, ◌+◌, ◌-◌, ◌*◌, ℕ, zero, suc, pos, Bool, true, false, cond, List, [], ◌∷◌, ◌++◌, length, map, append-nil, refl, ◌∙◌, ap, arith}
 use Rattle.std.specs.Prelude.{zip, flat_map}
 use Rattle.std.specs.List.{All, filter, range_with_len}
 use Rattle.std.proofs.lemmas.Bool.{cond_both}
 use Rattle.std.proofs.lemmas.List.{map-append, length-map}
-use Rattle.std.proofs.lemmas.List.Elements.{All-cons}
 use Rattle.std.proofs.lemmas.List.FromFn.{length-range_with_len}
-use Rattle.std.proofs.lemmas.Slice.Zip.{length-zip}
 use Rattle.mix_system.specs.declared.literal.Lit.{Lit}
 use Rattle.mix_system.specs.declared.row.Part.{Part}
 use Rattle.ll_verifier.specs.declared.order.PositionEdge.{PositionEdge}
 use Rattle.ll_verifier.specs.Sound.{SoundFunc}
 use Rattle.wrap_rows.specs.Blocks.{equals}
-use Rattle.wrap_rows.specs.Layout.{times, clause_from}
+use Rattle.wrap_rows.specs.Layout.{clause_from}
 use Rattle.wrap_rows.specs.Normal.{sizes, row_of, clause_of}
 use Rattle.wrap_rows.proofs.CaseLaws.{Each, Each-from_All, All-from_Each}
 use Rattle.path_encoding.specs.declared.spots.PathSpots.{PathSpots}
-use Rattle.path_encoding.specs.Spots.{block_at}
-use Rattle.path_encoding.specs.FlowRows.{flow_row, in_row, out_row, goes_on, in_rows, out_rows}
+use Rattle.path_encoding.specs.FlowRows.{flow_row, in_row, in_rows}
 use Rattle.path_encoding.specs.PathLayout.{flow_clauses}
 use Rattle.path_encoding.proofs.LayingLaws.{range_more, range_flat_more}
 

@@ -1,9 +1,9 @@
 -- The edges of a function with their variables.
-use Rattle.std.proofs.Common.{◌≡◌, ◌≢◌, ◌<◌, ◌≤◌, ◌+◌, ◌-◌, ⊎_elim, ℕ, zero, suc, Bool, true, List, [], ◌∷◌, length, get_or, map, refl, sym, ◌∙◌, ap, subst, arith}
+use Rattle.std.proofs.Common.{◌≡◌, ◌<◌, ◌≤◌, ◌+◌, ◌-◌, ⊎_elim, ℕ, zero, suc, Bool, true, List, [], ◌∷◌, length, get_or, map, refl, sym, ◌∙◌, ap, subst, arith}
 use Rattle.std.specs.Prelude.{zip}
-use Rattle.std.specs.List.{All, AllPairs, Contains, filter, range_with_len}
-use Rattle.std.proofs.lemmas.List.{length-map, get_or_default}
-use Rattle.std.proofs.lemmas.List.Elements.{All-contains, Contains-get_or}
+use Rattle.std.specs.List.{Contains, filter, range_with_len}
+use Rattle.std.proofs.lemmas.List.{length-map}
+use Rattle.std.proofs.lemmas.List.Elements.{All-contains}
 use Rattle.std.proofs.lemmas.List.FromFn.{length-range_with_len, get_or-range_with_len}
 use Rattle.std.proofs.lemmas.Bool.{cond_both}
 use Rattle.flow_graph.specs.declared.edge.Edge.{Edge}
@@ -14,13 +14,12 @@ use Rattle.ll_tree.specs.declared.block.Block.{Block}
 use Rattle.ll_tree.specs.declared.block.End.{End}
 use Rattle.ll_tree.specs.declared.block.End.TheVariants as end
 use Rattle.ll_rules.specs.Items.{targets_of}
-use Rattle.ll_edges.specs.Graph.{IsBlockAt, LeadsTo}
+use Rattle.ll_edges.specs.Graph.{IsBlockAt}
 use Rattle.ll_flow.proofs.PlaceLaws.{no_item, cons_cases}
-use Rattle.ll_rules.specs.Items.{labels_of}
 use Rattle.ll_verifier.specs.declared.order.PositionEdge.{PositionEdge}
 use Rattle.ll_verifier.specs.Order.{position_edge}
 use Rattle.ll_verifier.specs.Sound.{SoundFunc, IsSound}
-use Rattle.ir_runs.proofs.MemberLaws.{in_here, in_there, in_map, map_in}
+use Rattle.ir_runs.proofs.MemberLaws.{in_map, map_in}
 use Rattle.portion_cuts.specs.Paths.{place_at}
 use Rattle.path_encoding.specs.declared.spots.PathSpots.{PathSpots}
 use Rattle.path_encoding.specs.Spots.{no_block, block_at, edge_vars, AreSpotsOf}

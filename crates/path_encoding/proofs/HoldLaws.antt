@@ -1,11 +1,10 @@
 -- The path of values that return makes the path layout hold.
-use Rattle.std.proofs.Common.{◌≡◌, ◌<◌, ◌≤◌, ◌+◌, ◌-◌, ⊎_elim, inl, inr, ◌⊎◌, ℕ, zero, suc, ℤ, pos, neg_ℤ, ◌+ℤ◌, ◌≤ℤ◌, eqb, Bool, true, false, cond, List, [], ◌∷◌, ◌++◌, length, get_or, drop, map, Option, Some, None, refl, sym, ◌∙◌, ap, subst, arith}
+use Rattle.std.proofs.Common.{◌≡◌, ◌<◌, ◌≤◌, ◌+◌, ◌-◌, ⊎_elim, inl, inr, ◌⊎◌, ℕ, ℤ, pos, ◌≤ℤ◌, eqb, Bool, true, false, cond, List, [], ◌∷◌, ◌++◌, length, get_or, drop, map, Some, refl, sym, ◌∙◌, ap, subst, arith}
 use Rattle.std.specs.Prelude.{◌↔◌, zip, flat_map}
-use Rattle.std.specs.List.{All, Contains, filter, list_all, list_any, range_with_len}
+use Rattle.std.specs.List.{Contains, filter, list_all, range_with_len}
 use Rattle.std.proofs.lemmas.Bool.{true≢false}
 use Rattle.std.proofs.lemmas.Bool.Decides.{Decides-eqb}
 use Rattle.std.proofs.lemmas.Int.{ints}
-use Rattle.std.proofs.lemmas.List.{get_or_default}
 use Rattle.std.proofs.lemmas.List.Elements.{All-contains, Contains-get_or, Contains-append_cases}
 use Rattle.std.proofs.lemmas.List.FromFn.{length-range_with_len, get_or-range_with_len}
 use Rattle.mix_system.specs.declared.literal.Lit.{Lit}
@@ -14,9 +13,7 @@ use Rattle.mix_system.specs.Fits.{IsTrueAt}
 use Rattle.mix_system.specs.Row.{number_at, row_value}
 use Rattle.mix_system.specs.Sum.{int_sum_by}
 use Rattle.flow_graph.specs.Paths.{HasEdge}
-use Rattle.block_order.specs.Walk.{IsChain}
 use Rattle.ll_tree.specs.declared.block.Block.{Block}
-use Rattle.ll_tree.specs.declared.block.Case.{Case}
 use Rattle.ll_tree.specs.declared.block.Instr.{Instr}
 use Rattle.ll_rules.specs.Items.{targets_of}
 use Rattle.ll_flow.proofs.PlaceLaws.{no_item, cons_cases}
@@ -34,21 +31,21 @@ use Rattle.wrap_rows.specs.Layout.{Holds}
 use Rattle.wrap_rows.proofs.CaseLaws.{Each, Each-from_All}
 use Rattle.wrap_rows.proofs.BlockLaws.{all-true, Clause_here, Each-append, equals-true, mark_cases}
 use Rattle.path_encoding.specs.declared.spots.PathSpots.{PathSpots}
-use Rattle.path_encoding.specs.Spots.{no_block, block_at, block_var, edge_vars, edge_to, place_with, cases_of, case_vars, cases_before, AreSpotsOf}
-use Rattle.path_encoding.specs.FlowRows.{enters, leaves, flow_row, in_row, out_row, goes_on, in_rows, out_rows, flow_rows}
+use Rattle.path_encoding.specs.Spots.{no_block, block_at, block_var, edge_vars, edge_to, place_with, case_vars, cases_before, AreSpotsOf}
+use Rattle.path_encoding.specs.FlowRows.{enters, leaves, flow_row, in_row, out_row, in_rows, out_rows, flow_rows}
 use Rattle.path_encoding.specs.Ends.{assumes_at, end_clauses, block_clauses}
-use Rattle.path_encoding.specs.PathLayout.{strict_clauses, start_clauses, flow_clauses, visit_clauses, path_layout}
+use Rattle.path_encoding.specs.PathLayout.{start_clauses, flow_clauses, visit_clauses, path_layout}
 use Rattle.path_encoding.specs.Paths.{Steps, EndsThere, IsTaken, AreMarks}
-use Rattle.path_encoding.specs.Agree.{AgreesIn, AgreesOn, IsGiven, AgreesWith, IsCaseSaid, AreCasesSaid, asked_var, blocks_on, ReturnsOn}
+use Rattle.path_encoding.specs.Agree.{AgreesOn, IsGiven, AgreesWith, IsCaseSaid, AreCasesSaid, asked_var, blocks_on, ReturnsOn}
 use Rattle.path_encoding.proofs.CaseDiffer.{none_repeated}
 use Rattle.path_encoding.proofs.CountLaws.{cases_few}
 use Rattle.path_encoding.proofs.FillLaws.{assumes_off, end_off, assumes_true, goes_true, returns_true, strict_true}
 use Rattle.path_encoding.proofs.GraphLaws.{apart_pairs, apart_kept, edges_apart, edge_of, var_of, leads_on, single}
-use Rattle.path_encoding.proofs.MarkSums.{IsOnly, AreMarked, AreApart, sum_none, sum_only}
+use Rattle.path_encoding.proofs.MarkSums.{AreMarked, AreApart, sum_none, sum_only}
 use Rattle.path_encoding.proofs.MemberLaws.{kept, passes_of, member_of}
 use Rattle.path_encoding.proofs.StepsLaws.{steps_from, steps_to, stepped_to, step_has, one_from, one_to}
 use Rattle.path_encoding.proofs.TakenLaws.{flow_value, visits, takes, goes, visit_marks, take_marks}
-use Rattle.path_encoding.proofs.TargetLaws.{IsTarget, place_low, target, one_block}
+use Rattle.path_encoding.proofs.TargetLaws.{place_low, target, one_block}
 
 -- what holds for each member of a list holds of all that they make
 pub each_in : {X Y : Type 0} (P : Y → Type 0) (f : X → List Y) (xs : List X) → ((x : X) → Contains xs x → Each P (f x)) → Each P (flat_map f xs)

@@ -1,12 +1,11 @@
 -- That what is laid names variables that exist, and no rows of others.
-use Rattle.std.proofs.Common.{◌≡◌, ◌<◌, ◌≤◌, ◌+◌, ◌&&◌, ℕ, zero, suc, pos, eqb, leb, ltb, Bool, true, false, cond, List, [], ◌∷◌, ◌++◌, length, get_or, map, Option, Some, None, refl, sym, ◌∙◌, ap, subst, arith}
+use Rattle.std.proofs.Common.{◌≡◌, ◌<◌, ◌≤◌, ◌+◌, ◌&&◌, ℕ, zero, suc, pos, eqb, leb, ltb, Bool, true, false, cond, List, [], ◌∷◌, ◌++◌, length, get_or, map, Option, Some, None, refl, arith}
 use Rattle.std.specs.Prelude.{flat_map, zip}
 use Rattle.std.specs.Option.{unwrap_or}
 use Rattle.std.specs.Map.{lookup}
-use Rattle.std.specs.List.{list_all, Contains, range_with_len}
+use Rattle.std.specs.List.{list_all, range_with_len}
 use Rattle.std.proofs.lemmas.Bool.{cond_both}
-use Rattle.std.proofs.lemmas.Bool.Decides.{nat_tests, Decides-eqb}
-use Rattle.std.proofs.lemmas.List.FromFn.{length-range_with_len}
+use Rattle.std.proofs.lemmas.Bool.Decides.{nat_tests}
 use Rattle.mix_system.specs.declared.literal.Term.{Term}
 use Rattle.mix_system.specs.declared.literal.Term.TheVariants.{Var, Row}
 use Rattle.mix_system.specs.declared.literal.Lit.{Lit}
@@ -18,11 +17,8 @@ use Rattle.ll_tree.specs.declared.block.End.{End}
 use Rattle.ll_tree.specs.declared.block.End.TheVariants as end
 use Rattle.ll_tree.specs.declared.op.Op.{Op}
 use Rattle.ll_tree.specs.declared.op.Op.TheVariants.{Bin, Cmp, Cast, Select, Abs, Assume}
-use Rattle.ll_links.specs.declared.link.BlockId.{BlockId}
 use Rattle.ll_links.specs.declared.link.Source.{Source}
 use Rattle.ll_links.specs.declared.link.Source.TheVariants as source
-use Rattle.ll_links.specs.Links.{block_id}
-use Rattle.ll_verifier.specs.declared.order.PositionEdge.{PositionEdge}
 use Rattle.ll_verifier.specs.Sound.{SoundFunc}
 use Rattle.wrap_rows.specs.declared.vars.ValueVars.{ValueVars}
 use Rattle.wrap_rows.specs.Blocks.{equals}
@@ -33,9 +29,9 @@ use Rattle.wrap_rows.proofs.CaseLaws.{Each, Each-from_All}
 use Rattle.wrap_rows.proofs.BlockLaws.{Each-append}
 use Rattle.path_encoding.specs.declared.spots.ConstSpot.{ConstSpot}
 use Rattle.path_encoding.specs.declared.spots.PathSpots.{PathSpots}
-use Rattle.path_encoding.specs.Spots.{value_vars, constant_among, constant_var, source_vars, operand_vars, block_at, block_var, place_with, edge_among, edge_to, edge_vars, case_vars, Exist}
+use Rattle.path_encoding.specs.Spots.{value_vars, constant_among, constant_var, source_vars, operand_vars, block_at, block_var, place_with, edge_to, edge_vars, case_vars, Exist}
 use Rattle.path_encoding.specs.FlowRows.{flow_rows}
-use Rattle.path_encoding.specs.Ends.{is_on, assume_clauses, assumes_at, ranged_clauses, return_clauses, branch_clauses, fork_clauses, each_case, default_clause, switch_clauses, end_clauses, block_clauses}
+use Rattle.path_encoding.specs.Ends.{is_on, assume_clauses, assumes_at, ranged_clauses, return_clauses, branch_clauses, each_case, default_clause, switch_clauses, end_clauses, block_clauses}
 use Rattle.path_encoding.specs.PathLayout.{strict_clauses, start_clauses, flow_clauses, visit_clauses, path_layout}
 
 -- ---- variables exist

@@ -1,5 +1,5 @@
 -- Values lead along the path that a point takes, and its last block returns.
-use Rattle.std.proofs.Common.{◌≡◌, ◌<◌, ◌≤◌, ◌&&◌, ◌||◌, ⊎_elim, inl, inr, ◌⊎◌, ℕ, zero, suc, ℤ, pos, ◌≤ℤ◌, ◌<ℤ◌, eqb, Bool, true, false, cond, not, List, [], ◌∷◌, ◌++◌, length, map, Option, Some, None, option_map, refl, sym, ◌∙◌, ap, subst, arith}
+use Rattle.std.proofs.Common.{◌≡◌, ◌<◌, ◌≤◌, ◌&&◌, ◌||◌, ⊎_elim, ℕ, ℤ, pos, ◌≤ℤ◌, eqb, Bool, true, false, cond, not, List, [], ◌∷◌, ◌++◌, length, map, Option, Some, option_map, refl, sym, ◌∙◌, ap, arith}
 use Rattle.std.specs.Prelude.{unsigned_abs, zip, flat_map}
 use Rattle.std.specs.Option.{unwrap_or}
 use Rattle.std.specs.Map.{lookup}
@@ -28,19 +28,19 @@ use Rattle.ir_meaning.specs.declared.value.Val.{Val}
 use Rattle.ir_meaning.specs.declared.value.Val.TheVariants.{Poison, Num}
 use Rattle.ir_meaning.specs.Value.{poison_if, on_number}
 use Rattle.ir_runs.specs.Values.{Vals, operand_value, is_in_range, ranged}
-use Rattle.ir_runs.specs.Walk.{Step, Goes, Returns, branch, choose, give, return_of, end_step, is_one, is_assumed, is_barred}
+use Rattle.ir_runs.specs.Walk.{Goes, Returns, branch, choose, give, end_step, is_one, is_assumed, is_barred}
 use Rattle.ir_runs.specs.declared.ret_val.RetVal.{RetVal}
 use Rattle.ir_runs.specs.declared.ret_val.RetVal.TheVariants as ret
 use Rattle.ir_runs.proofs.MemberLaws.{in_here, in_there, in_map}
 use Rattle.wrap_rows.specs.declared.vars.ValueVars.{ValueVars}
 use Rattle.wrap_rows.specs.Layout.{at_most, at_least}
-use Rattle.wrap_rows.specs.Vars.{IsMark, IsValue, value_at}
+use Rattle.wrap_rows.specs.Vars.{value_at}
 use Rattle.wrap_rows.proofs.CaseLaws.{Each, Some_of, by_test, without_first, only}
-use Rattle.wrap_rows.proofs.BlockLaws.{Clause_here, Each-left, Each-right, mark_cases}
+use Rattle.wrap_rows.proofs.BlockLaws.{Clause_here, Each-left, Each-right}
 use Rattle.path_encoding.specs.declared.spots.PathSpots.{PathSpots}
 use Rattle.path_encoding.specs.Spots.{operand_vars, block_var, place_with, edge_to, cases_of}
 use Rattle.path_encoding.specs.FlowRows.{goes_on}
-use Rattle.path_encoding.specs.Ends.{is_off, is_on, assume_clauses, not_poison, return_clauses, ranged_clauses, branch_clauses, each_case, default_clause, switch_clauses, end_clauses}
+use Rattle.path_encoding.specs.Ends.{is_off, is_on, assume_clauses, not_poison, return_clauses, branch_clauses, each_case, default_clause, end_clauses}
 use Rattle.path_encoding.specs.PathLayout.{strict_clauses}
 use Rattle.path_encoding.specs.Agree.{Agrees, AllAgree, assume_parts, IsGiven}
 use Rattle.path_encoding.proofs.NumberLaws.{size_of, number_there, ranged_said, ranged_is}

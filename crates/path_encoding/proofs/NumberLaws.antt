@@ -1,10 +1,10 @@
 -- Numbers and marks as values, and ranges.
-use Rattle.std.proofs.Common.{◌≡◌, ◌<◌, ◌≤◌, ◌^◌, ◌&&◌, ◌||◌, ⊎_elim, inl, inr, ◌⊎◌, ℕ, ℤ, pos, negsuc, ◌≤ℤ◌, ◌<ℤ◌, ◌-ℤ◌, ◌+ℤ◌, eqb, leb, ltb, Bool, true, false, cond, not, List, [], ◌∷◌, Option, Some, None, refl, sym, ◌∙◌, ap, subst, arith}
+use Rattle.std.proofs.Common.{◌≡◌, ◌<◌, ◌≤◌, ◌&&◌, ◌||◌, ⊎_elim, inl, inr, ◌⊎◌, ℕ, ℤ, pos, negsuc, ◌≤ℤ◌, ◌-ℤ◌, leb, ltb, Bool, true, false, cond, not, List, [], ◌∷◌, Option, Some, None, refl, sym, ◌∙◌, ap, arith}
 use Rattle.std.specs.Prelude.{unsigned_abs}
 use Rattle.std.specs.Ordering.{int_eq}
-use Rattle.std.proofs.lemmas.Bool.{true≢false, cond_both}
-use Rattle.std.proofs.lemmas.Bool.Decides.{nat_tests, Decides-eqb, Decides-int_eq}
-use Rattle.std.proofs.lemmas.Int.{ints, by_lt_z}
+use Rattle.std.proofs.lemmas.Bool.{true≢false}
+use Rattle.std.proofs.lemmas.Bool.Decides.{nat_tests, Decides-int_eq}
+use Rattle.std.proofs.lemmas.Int.{ints}
 use Rattle.mix_system.specs.declared.literal.Term.TheVariants.{Var}
 use Rattle.mix_system.specs.declared.literal.Lit.{Lit}
 use Rattle.mix_system.specs.declared.row.Part.{Part}
@@ -13,10 +13,10 @@ use Rattle.ll_tree.specs.declared.func.Range.{Range}
 use Rattle.ir_meaning.specs.declared.value.Val.{Val}
 use Rattle.ir_meaning.specs.declared.value.Val.TheVariants.{Poison, Num}
 use Rattle.ir_meaning.specs.Value.{poison_if}
-use Rattle.ir_runs.specs.Values.{is_between, is_in_range, ranged}
+use Rattle.ir_runs.specs.Values.{is_in_range, ranged}
 use Rattle.wrap_rows.specs.declared.vars.ValueVars.{ValueVars}
 use Rattle.wrap_rows.specs.Layout.{at_most, at_least}
-use Rattle.wrap_rows.specs.Vars.{IsMark, IsValue, value_at, is_marked}
+use Rattle.wrap_rows.specs.Vars.{IsMark, value_at, is_marked}
 use Rattle.wrap_rows.proofs.CaseLaws.{Each, by_test, without_first, only}
 use Rattle.wrap_rows.proofs.BlockLaws.{mark_cases, Clause_here}
 use Rattle.path_encoding.specs.Ends.{is_off, ranged_clauses}

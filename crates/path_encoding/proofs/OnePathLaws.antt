@@ -11,7 +11,7 @@ use Rattle.ir_runs.proofs.MemberLaws.{in_here, in_there}
 use Rattle.wrap_rows.specs.Vars.{IsMark}
 use Rattle.path_encoding.specs.FlowRows.{enters, leaves}
 use Rattle.path_encoding.specs.Paths.{Steps}
-use Rattle.path_encoding.proofs.MarkSums.{AreMarked, IsOnly, one_most, only_of}
+use Rattle.path_encoding.proofs.MarkSums.{AreMarked, one_most, only_of}
 use Rattle.path_encoding.proofs.MemberLaws.{kept, passes_of, member_of}
 
 -- Edges with numbers and blocks with numbers, all 0 or 1, of which the entry is 1. Edges lead forward from blocks that are left by one.

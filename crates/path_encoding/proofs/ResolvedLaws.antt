@@ -1,5 +1,5 @@
 -- The clauses over numbers are those over names.
-use Rattle.std.proofs.Common.{◌≡◌, ◌<◌, ◌≤◌, ◌+◌, ◌*◌, ◌^◌, ℕ, zero, suc, pos, append_assoc, List, [], ◌∷◌, ◌++◌, length, get_or, map, take, drop, Bool, true, false, Option, Some, None, option_map, refl, sym, ◌∙◌, ap, subst, arith}
+use Rattle.std.proofs.Common.{◌≡◌, ◌<◌, ◌≤◌, ◌+◌, ◌*◌, ◌^◌, ℕ, pos, append_assoc, List, [], ◌∷◌, ◌++◌, length, get_or, map, take, drop, true, false, Option, Some, None, option_map, refl, sym, ◌∙◌, ap, subst, arith}
 use Rattle.std.specs.Prelude.{flat_map, zip}
 use Rattle.std.specs.List.{All}
 use Rattle.std.specs.Option.{unwrap_or}
@@ -21,7 +21,6 @@ use Rattle.ll_tree.specs.declared.op.Op.{Op}
 use Rattle.ll_tree.specs.declared.op.Op.TheVariants.{Bin, Cmp, Cast, Select, Abs, Assume}
 use Rattle.ll_rules.specs.Items.{Item, OfPhi, OfInstr, OfEnd, items_of, targets_of, labels_of, values_of}
 use Rattle.name_table.specs.Names.{place_of}
-use Rattle.flow_rules.proofs.OrderLaws.{places_within}
 use Rattle.ll_links.specs.declared.link.BlockId.{BlockId}
 use Rattle.ll_links.specs.declared.link.Source.{Source}
 use Rattle.ll_links.specs.declared.link.Source.TheVariants as source
@@ -33,9 +32,9 @@ use Rattle.portion_cuts.specs.Paths.{place_at}
 use Rattle.wrap_rows.specs.Normal.{clause_of}
 use Rattle.path_encoding.specs.declared.spots.PathSpots.{PathSpots}
 use Rattle.path_encoding.specs.Spots.{source_at, source_vars, block_at, block_var, no_block, place_with, edge_to, cases_of, IsBlock}
-use Rattle.path_encoding.specs.Ends.{is_off, is_on, not_poison, assumed, assume_clauses, each_case, switch_clauses, end_clauses, default_clause}
+use Rattle.path_encoding.specs.Ends.{is_off, is_on, not_poison, assumed, assume_clauses, each_case, end_clauses, default_clause}
 use Rattle.path_encoding.proofs.LayingLaws.{zip_low, length_zip}
-use Rattle.path_encoding.specs.Resolved.{is_assume, first_of, places, case_to, switch_to, end_to}
+use Rattle.path_encoding.specs.Resolved.{is_assume, first_of, places, case_to, end_to}
 
 -- ---- numbers that are all there
 

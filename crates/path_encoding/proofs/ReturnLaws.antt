@@ -1,19 +1,15 @@
 -- Values lead along the path that a point takes, block by block.
-use Rattle.std.proofs.Common.{◌≡◌, ◌<◌, ◌≤◌, ℕ, ℤ, pos, ◌≤ℤ◌, true, false, cond, List, [], ◌∷◌, ◌++◌, length, drop, map, Option, Some, None, refl, sym, ◌∙◌, ap, subst, arith}
-use Rattle.std.specs.Prelude.{zip, flat_map}
-use Rattle.std.specs.List.{All, Contains, list_all, range_with_len}
+use Rattle.std.proofs.Common.{◌≡◌, ◌<◌, ◌≤◌, ℕ, ℤ, pos, ◌≤ℤ◌, true, false, cond, List, [], ◌∷◌, length, drop, Some, sym, ◌∙◌, ap, subst, arith}
+use Rattle.std.specs.Prelude.{zip}
+use Rattle.std.specs.List.{Contains, range_with_len}
 use Rattle.std.proofs.lemmas.Int.{ints}
-use Rattle.std.proofs.lemmas.List.{length-map, length-append}
-use Rattle.std.proofs.lemmas.List.Elements.{All-contains}
 use Rattle.mix_system.specs.Row.{number_at}
-use Rattle.ll_tree.specs.declared.func.Param.{Param}
 use Rattle.ll_tree.specs.declared.block.Block.{Block}
-use Rattle.ll_tree.specs.declared.block.Instr.{Instr}
-use Rattle.ll_rules.specs.Items.{targets_of, block_values, values_of}
+use Rattle.ll_rules.specs.Items.{targets_of}
 use Rattle.ll_verifier.specs.declared.order.PositionEdge.{PositionEdge}
 use Rattle.ll_verifier.specs.Sound.{SoundFunc, IsSound}
 use Rattle.ir_runs.specs.Values.{Vals}
-use Rattle.ir_runs.specs.Walk.{Step, Goes as GoesTo, Returns, Fails, LeadOn, EndsWith, end_step, is_assumed, has_poison_argument, step_of}
+use Rattle.ir_runs.specs.Walk.{Goes as GoesTo, Returns, Fails, LeadOn, EndsWith, end_step, has_poison_argument, step_of}
 use Rattle.ir_runs.specs.declared.ret_val.RetVal.{RetVal}
 use Rattle.ir_runs.specs.declared.undefined.UndefinedCause.TheVariants as cause
 use Rattle.ir_runs.proofs.MemberLaws.{in_here, in_there}
@@ -21,10 +17,10 @@ use Rattle.wrap_rows.specs.Layout.{Holds}
 use Rattle.wrap_rows.proofs.CaseLaws.{Each, Each-from_All}
 use Rattle.wrap_rows.proofs.BlockLaws.{Each-left, Each-right}
 use Rattle.path_encoding.specs.declared.spots.PathSpots.{PathSpots}
-use Rattle.path_encoding.specs.Spots.{block_at, block_var, edge_vars, edge_to, place_with, cases_of, case_vars, cases_before, AreSpotsOf}
+use Rattle.path_encoding.specs.Spots.{block_at, block_var, edge_vars, case_vars, cases_before, AreSpotsOf}
 use Rattle.path_encoding.specs.FlowRows.{flow_rows}
 use Rattle.path_encoding.specs.Ends.{assumes_at, end_clauses, block_clauses}
-use Rattle.path_encoding.specs.PathLayout.{strict_clauses, path_layout}
+use Rattle.path_encoding.specs.PathLayout.{path_layout}
 use Rattle.path_encoding.specs.Paths.{IsTaken, AreMarks}
 use Rattle.path_encoding.specs.Agree.{AgreesIn, AgreesOn, IsGiven, AgreesWith, blocks_on, ReturnsOn}
 use Rattle.path_encoding.proofs.CountLaws.{cases_few}
@@ -32,7 +28,7 @@ use Rattle.path_encoding.proofs.GraphLaws.{counted}
 use Rattle.path_encoding.proofs.LeadLaws.{IsNext, assumes_hold, leads_to, returns_there, none_barred}
 use Rattle.path_encoding.proofs.OnePathLaws.{Takes, same_way, visits_to}
 use Rattle.path_encoding.proofs.TakenLaws.{each_of, visits, takes, goes, take_marks, start_true, visits_true, Clause, flows, Goes, all_follow}
-use Rattle.path_encoding.proofs.TargetLaws.{IsTarget, target, one_target, led_to}
+use Rattle.path_encoding.proofs.TargetLaws.{target, one_target, led_to}
 
 module _ (it : SoundFunc) (sound : IsSound it) (spots : PathSpots) (are : AreSpotsOf it spots) (point : List ℤ) (marks : AreMarks spots point) (holds : Holds (path_layout it spots) point) where
   abbrev Mine : ℕ → List ℕ → Type 0

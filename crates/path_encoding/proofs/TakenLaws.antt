@@ -1,14 +1,13 @@
 -- A point at which the path layout holds takes one path.
-use Rattle.std.proofs.Common.{◌≡◌, ◌<◌, ◌≤◌, ◌+◌, ◌-◌, ⊎_elim, inl, inr, ℕ, zero, suc, ℤ, pos, neg_ℤ, ◌+ℤ◌, ◌≤ℤ◌, Bool, true, List, [], ◌∷◌, ◌++◌, length, get_or, map, refl, sym, ◌∙◌, ap, subst, arith}
-use Rattle.std.specs.Prelude.{◌↔◌, slice_index_or, flat_map}
-use Rattle.std.specs.List.{All, Contains, filter, range_with_len}
+use Rattle.std.proofs.Common.{◌≡◌, ◌<◌, ◌-◌, ⊎_elim, inl, inr, ℕ, ℤ, pos, neg_ℤ, ◌+ℤ◌, ◌≤ℤ◌, Bool, true, List, [], ◌∷◌, ◌++◌, length, get_or, refl, ◌∙◌, ap, subst, arith}
+use Rattle.std.specs.Prelude.{◌↔◌, flat_map}
+use Rattle.std.specs.List.{Contains, filter, range_with_len}
 use Rattle.std.proofs.lemmas.Int.{ints}
 use Rattle.std.proofs.lemmas.List.{get_or_default}
 use Rattle.std.proofs.lemmas.List.Elements.{All-contains, All-get_or, Contains-get_or, Contains-append_left, Contains-append_right}
-use Rattle.mix_system.specs.declared.literal.Term.TheVariants.{Row}
 use Rattle.mix_system.specs.declared.literal.Lit.{Lit}
 use Rattle.mix_system.specs.declared.row.Part.{Part}
-use Rattle.mix_system.specs.Fits.{IsTrueAt, term_value}
+use Rattle.mix_system.specs.Fits.{IsTrueAt}
 use Rattle.mix_system.specs.Row.{number_at, row_value}
 use Rattle.mix_system.specs.Sum.{int_sum_by}
 use Rattle.flow_graph.specs.Paths.{HasEdge}
@@ -30,7 +29,7 @@ use Rattle.path_encoding.specs.PathLayout.{start_clauses, flow_clauses, visit_cl
 use Rattle.path_encoding.specs.Paths.{Steps, EndsThere, IsTaken, AreMarks}
 use Rattle.path_encoding.proofs.GraphLaws.{counted, edge_of, var_of, leads_on, single}
 use Rattle.path_encoding.proofs.MemberLaws.{kept, second_in}
-use Rattle.path_encoding.proofs.OnePathLaws.{Flows, Takes, Follows, follow, one_follows, visited_there, taken_there, visited, taken}
+use Rattle.path_encoding.proofs.OnePathLaws.{Flows, Follows, follow, one_follows, visited_there, taken_there, visited, taken}
 
 pub each_of : {X Y : Type 0} (P : Y → Type 0) (f : X → List Y) (xs : List X) → Each P (flat_map f xs) → (x : X) → Contains xs x → Each P (f x)
 each_of P f [] each x there = absurd (no_item x there)

@@ -1,13 +1,12 @@
 -- The labels to which a block may go, and the edges out of it.
-use Rattle.std.proofs.Common.{◌≡◌, ◌<◌, ◌≤◌, ◌&&◌, ⊎_elim, ℕ, zero, suc, eqb, Bool, true, false, List, [], ◌∷◌, length, get_or, map, Option, Some, None, refl, sym, ◌∙◌, ap, subst, arith}
+use Rattle.std.proofs.Common.{◌≡◌, ◌<◌, ◌&&◌, ⊎_elim, ℕ, zero, suc, eqb, Bool, true, false, List, [], ◌∷◌, length, get_or, map, Option, Some, refl, sym, ◌∙◌, ap, subst, arith}
 use Rattle.std.specs.Option.{unwrap_or}
 use Rattle.std.specs.Map.{lookup}
 use Rattle.std.specs.List.{Contains}
 use Rattle.std.proofs.lemmas.Bool.{true≢false, cond_both, cases_lt}
 use Rattle.std.proofs.lemmas.Bool.Decides.{Decides-eqb}
-use Rattle.std.proofs.lemmas.List.{length-map, get_or-map, get_or_default}
+use Rattle.std.proofs.lemmas.List.{get_or-map}
 use Rattle.std.proofs.lemmas.List.Elements.{Contains-get_or}
-use Rattle.flow_graph.specs.declared.edge.Edge.{Edge}
 use Rattle.flow_graph.specs.Paths.{HasEdge}
 use Rattle.flow_rules.proofs.OrderLaws.{places_within, places_apart}
 use Rattle.ll_tree.specs.declared.block.Block.{Block}
@@ -16,7 +15,6 @@ use Rattle.name_table.specs.Names.{place_of}
 use Rattle.ll_edges.specs.Graph.{IsBlockAt}
 use Rattle.ll_links.specs.declared.link.BlockId.{BlockId}
 use Rattle.ll_links.specs.Links.{block_id}
-use Rattle.ll_flow.specs.Paths.{label_of}
 use Rattle.ll_flow.proofs.PlaceLaws.{no_item, cons_cases, place_is, count, found_at, same_label}
 use Rattle.ll_verifier.specs.declared.order.PositionEdge.{PositionEdge}
 use Rattle.ll_verifier.specs.Order.{position_edge}
@@ -27,7 +25,7 @@ use Rattle.sound_costs.proofs.EdgeLaws.{labels_differ}
 use Rattle.portion_cuts.specs.Paths.{place_at, label_at}
 use Rattle.portion_cuts.proofs.WalkPaths.{position_of}
 use Rattle.path_encoding.specs.declared.spots.PathSpots.{PathSpots}
-use Rattle.path_encoding.specs.Spots.{no_block, block_at, edge_vars, place_with, edge_among, edge_to, AreSpotsOf}
+use Rattle.path_encoding.specs.Spots.{no_block, block_at, edge_vars, place_with, edge_to, AreSpotsOf}
 use Rattle.path_encoding.proofs.GraphLaws.{block_is, edge_of, var_of, single}
 
 -- ---- the one of some pairs whose key passes

@@ -1,5 +1,5 @@
 -- How the path of a point is read: from each block by the first edge that is 1.
-use Rattle.std.specs.Prelude.{◌==◌, ◌&&◌, ℕ, ℤ, pos, Bool, if◌then◌else◌, List, [], ◌∷◌, map, Option, Some, None}
+use Rattle.std.specs.Prelude.{◌==◌, ◌&&◌, ℕ, ℤ, pos, Bool, if◌then◌else◌, List, [], ◌∷◌, Option, Some, None}
 use Rattle.std.specs.Ordering.{int_eq}
 use Rattle.mix_system.specs.Row.{number_at}
 use Rattle.ll_links.specs.declared.link.Position.{Position}

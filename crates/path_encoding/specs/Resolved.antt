@@ -1,5 +1,5 @@
 -- The clauses of a block over numbers in place of names, as the code makes them.
-use Rattle.std.specs.Prelude.{◌++◌, ℕ, Bool, true, false, List, [], ◌∷◌, map, flat_map, zip, drop, slice_index, slice_index_or, if◌then◌else◌}
+use Rattle.std.specs.Prelude.{◌++◌, ℕ, Bool, true, false, List, [], ◌∷◌, map, flat_map, zip, drop, slice_index, slice_index_or}
 use Rattle.mix_system.specs.declared.literal.Lit.{Lit}
 use Rattle.ll_tree.specs.declared.block.Case.{Case}
 use Rattle.ll_tree.specs.declared.block.End.{End}
@@ -12,7 +12,7 @@ use Rattle.ll_links.specs.declared.link.Source.TheVariants as source
 use Rattle.ll_verifier.specs.Sound.{SoundFunc}
 use Rattle.wrap_rows.specs.declared.vars.ValueVars.{ValueVars}
 use Rattle.path_encoding.specs.declared.spots.PathSpots.{PathSpots}
-use Rattle.path_encoding.specs.Spots.{source_vars, block_var, edge_to}
+use Rattle.path_encoding.specs.Spots.{block_var, edge_to}
 use Rattle.path_encoding.specs.Ends.{is_off, not_poison, return_clauses, fork_clauses, case_clauses, default_clause}
 
 abbrev pub is_assume : Op → Bool

@@ -1,10 +1,10 @@
-use Rattle.std.proofs.Common.{◌≡◌, ◌<◌, ◌+◌, ◌++◌, ◌∙◌, ℕ, List, [], true, false, length, get_or, map, sym, ap, subst, arith, rules}
+use Rattle.std.proofs.Common.{◌≡◌, ◌<◌, ◌+◌, ◌++◌, ◌∙◌, List, true, false, length, get_or, map, sym, ap, subst, arith, rules}
 use Rattle.std.specs.Prelude.{flat_map}
 use Rattle.std.proofs.lemmas.List.{get_or_default}
 use Rattle.mix_system.specs.declared.literal.Lit.{Lit}
 use Rattle.mix_system.specs.System.{System}
 use Rattle.ll_tree.specs.declared.block.Instr.{Instr}
-use Rattle.ll_rules.specs.Items.{Item, OfInstr, labels_of, values_of}
+use Rattle.ll_rules.specs.Items.{OfInstr, labels_of, values_of}
 use Rattle.ll_links.specs.Items.{item_at}
 use Rattle.ll_links.specs.Links.{AreLinks}
 use Rattle.wrap_rows.specs.declared.vars.ValueVars.{ValueVars}

@@ -1,4 +1,4 @@
-use Rattle.std.proofs.Common.{◌≡◌, ◌<◌, length, ap, subst, sym, arith, ℕ}
+use Rattle.std.proofs.Common.{◌<◌, length, ap, subst, sym, arith, ℕ}
 use Rattle.mix_system.specs.System.{System}
 use Rattle.path_encoding.proofs.KnownLaws.{edge_known}
 use Rattle.path_encoding.proofs.exit.add_fork.Goals as goal

@@ -1,4 +1,4 @@
-use Rattle.std.proofs.Common.{◌≡◌, ◌+◌, ◌∙◌, length, subst, sym, arith, rules}
+use Rattle.std.proofs.Common.{◌+◌, length, subst, arith}
 use Rattle.ll_rules.specs.Items.{Item, OfEnd, labels_of, values_of, targets_of}
 use Rattle.ll_links.specs.Items.{item_at}
 use Rattle.ll_links.specs.Links.{AreLinks, end_operands}

@@ -1,8 +1,7 @@
-use Rattle.std.proofs.Common.{◌≡◌, ◌<◌, ◌++◌, ◌∷◌, [], ◌∙◌, ℕ, List, length, map, sym, ap, subst, arith, rules}
+use Rattle.std.proofs.Common.{◌≡◌, ◌++◌, ◌∷◌, [], ◌∙◌, ℕ, map, ap, arith}
 use Rattle.std.specs.Prelude.{zip, flat_map}
 use Rattle.std.proofs.lemmas.List.{get_or_default}
 use Rattle.mix_system.specs.declared.literal.Lit.{Lit}
-use Rattle.mix_system.specs.System.{System}
 use Rattle.ll_tree.specs.declared.func.Func.{Func}
 use Rattle.wrap_rows.specs.Normal.{clause_of}
 use Rattle.path_encoding.specs.Spots.{block_var}

@@ -1,8 +1,7 @@
-use Rattle.std.proofs.Common.{◌≡◌, ◌<◌, ◌+◌, ◌++◌, ◌∷◌, [], ◌∙◌, ℕ, Bool, true, false, cond, List, length, get_or, map, sym, ap, subst, arith, rules}
-use Rattle.std.specs.Prelude.{zip, flat_map}
+use Rattle.std.proofs.Common.{◌≡◌, ◌<◌, ◌++◌, ◌∷◌, [], ◌∙◌, ℕ, Bool, true, false, cond, List, length, get_or, map, sym, ap, arith, rules}
+use Rattle.std.specs.Prelude.{zip}
 use Rattle.std.proofs.lemmas.Slice.Zip.{get_or-zip}
 use Rattle.mix_system.specs.declared.literal.Lit.{Lit}
-use Rattle.mix_system.specs.System.{System}
 use Rattle.ll_tree.specs.declared.func.Param.{Param}
 use Rattle.wrap_rows.specs.declared.vars.ValueVars.{ValueVars}
 use Rattle.wrap_rows.specs.Normal.{clause_of}

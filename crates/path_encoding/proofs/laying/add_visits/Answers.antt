@@ -1,15 +1,14 @@
-use Rattle.std.proofs.Common.{◌≡◌, ◌<◌, ◌≤◌, ◌+◌, ◌++◌, ◌∙◌, ℕ, List, length, get_or, drop, map, append_assoc, sym, ap, subst, arith, rules}
+use Rattle.std.proofs.Common.{◌≡◌, ◌<◌, ◌+◌, ◌++◌, ◌∙◌, ℕ, List, length, drop, map, append_assoc, sym, ap, arith}
 use Rattle.std.specs.Prelude.{flat_map, zip}
 use Rattle.std.specs.List.{range_with_len}
 use Rattle.std.proofs.lemmas.List.{length-map, length-append}
-use Rattle.std.proofs.lemmas.List.Elements.{All-drop}
 use Rattle.mix_system.specs.declared.literal.Lit.{Lit}
 use Rattle.mix_system.specs.System.{System}
 use Rattle.ll_tree.specs.declared.block.Block.{Block}
 use Rattle.wrap_rows.specs.Normal.{clause_of}
-use Rattle.path_encoding.specs.Spots.{cases_before, cases_of, block_at}
+use Rattle.path_encoding.specs.Spots.{cases_before, cases_of}
 use Rattle.path_encoding.specs.Ends.{assumes_at, end_clauses, block_clauses}
-use Rattle.path_encoding.proofs.CountLaws.{cases_in, before_more, before_within, cases_few}
+use Rattle.path_encoding.proofs.CountLaws.{before_more, before_within, cases_few}
 use Rattle.path_encoding.proofs.LayingLaws.{range_flat_more, range_flat_room}
 use Rattle.path_encoding.proofs.ResolvedLaws.{block_there, block_seen}
 use Rattle.path_encoding.proofs.VisitLaws.{block_piece}

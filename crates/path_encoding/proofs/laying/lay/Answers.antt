@@ -1,11 +1,9 @@
-use Rattle.std.proofs.Common.{◌≡◌, ◌<◌, ◌≤◌, ◌+◌, ◌-◌, ◌++◌, ◌∙◌, ℕ, List, length, map, append_assoc, sym, ap, subst, arith, rules}
-use Rattle.std.proofs.lemmas.List.{length-map, length-append, map-append}
-use Rattle.mix_system.specs.declared.literal.Lit.{Lit}
-use Rattle.mix_system.specs.declared.row.Part.{Part}
+use Rattle.std.proofs.Common.{◌≡◌, ◌-◌, ◌++◌, ℕ, length, map, ap, subst, arith}
+use Rattle.std.proofs.lemmas.List.{length-map, length-append}
 use Rattle.mix_system.specs.System.{System}
 use Rattle.wrap_rows.specs.Layout.{clause_from}
 use Rattle.wrap_rows.specs.Normal.{row_of, clause_of}
-use Rattle.path_encoding.specs.FlowRows.{in_rows, out_rows, flow_rows}
+use Rattle.path_encoding.specs.FlowRows.{in_rows, flow_rows}
 use Rattle.path_encoding.specs.PathLayout.{start_clauses, flow_clauses, visit_clauses}
 use Rattle.path_encoding.proofs.FlowLaws.{in_count}
 use Rattle.path_encoding.proofs.KnownLaws.{own_rows}

@@ -1,9 +1,8 @@
-use Rattle.std.proofs.Common.{◌≡◌, ◌<◌, ◌≤◌, ◌+◌, ◌++◌, ◌∷◌, [], ◌∙◌, ℕ, List, Option, Some, None, length, get_or, sym, ap, subst, arith}
+use Rattle.std.proofs.Common.{◌≡◌, ◌+◌, ◌∙◌, ℕ, List, Some, None, length, get_or, sym, ap, subst, arith}
 use Rattle.std.specs.Prelude.{zip}
 use Rattle.std.proofs.lemmas.List.{length_push, length-map}
 use Rattle.ll_links.specs.declared.link.Position.{Position}
 use Rattle.ll_links.specs.Links.{block_id}
-use Rattle.ll_verifier.specs.declared.order.PositionEdge.{PositionEdge}
 use Rattle.path_encoding.specs.Spots.{edge_vars}
 use Rattle.path_encoding.specs.Paths.{positions, IsTaken}
 use Rattle.path_encoding.specs.Reading.{next_from}

@@ -1,4 +1,4 @@
-use Rattle.std.proofs.Common.{◌≡◌, ◌+◌, ◌-◌, ◌*◌, ◌++◌, ◌∙◌, ℕ, pos, List, length, map, append_assoc, sym, ap, arith}
+use Rattle.std.proofs.Common.{◌≡◌, ◌+◌, ◌-◌, ◌++◌, ◌∙◌, ℕ, pos, List, length, map, append_assoc, sym, ap, arith}
 use Rattle.std.proofs.lemmas.List.{length-map, length-append}
 use Rattle.mix_system.specs.declared.literal.Lit.{Lit}
 use Rattle.mix_system.specs.System.{System}

@@ -1,9 +1,7 @@
-use Rattle.std.proofs.Common.{◌≡◌, ◌<◌, ◌∙◌, ℕ, length, sym, ap, subst, arith, rules}
-use Rattle.ll_verifier.specs.Order.{position_edge}
+use Rattle.std.proofs.Common.{◌<◌, ◌∙◌, ℕ, length, sym, ap, subst, arith, rules}
 use Rattle.std.specs.Prelude.{zip}
 use Rattle.std.specs.List.{All, filter}
-use Rattle.path_encoding.specs.Spots.{block_var, edge_vars}
-use Rattle.path_encoding.specs.FlowRows.{leaves, flow_row}
+use Rattle.path_encoding.specs.FlowRows.{leaves}
 use Rattle.path_encoding.proofs.FlowLaws.{flow_known, flow_sizes}
 use Rattle.path_encoding.proofs.rows.add_out_row.Goals as goal
 

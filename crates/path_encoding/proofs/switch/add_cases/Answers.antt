@@ -1,8 +1,7 @@
-use Rattle.std.proofs.Common.{◌≡◌, ◌<◌, ◌+◌, ◌++◌, ◌∙◌, ℕ, List, length, get_or, map, sym, ap, subst, arith, rules}
-use Rattle.std.specs.Prelude.{zip, flat_map}
+use Rattle.std.proofs.Common.{◌≡◌, ◌<◌, ◌++◌, ◌∙◌, List, length, get_or, map, sym, ap, arith}
+use Rattle.std.specs.Prelude.{zip}
 use Rattle.std.proofs.lemmas.List.{length-map, get_or_default}
 use Rattle.mix_system.specs.declared.literal.Lit.{Lit}
-use Rattle.mix_system.specs.System.{System}
 use Rattle.ll_links.specs.declared.link.BlockId.{BlockId}
 use Rattle.wrap_rows.specs.Normal.{clause_of}
 use Rattle.path_encoding.specs.Resolved.{places, case_to}

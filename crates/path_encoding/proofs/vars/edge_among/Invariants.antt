@@ -1,4 +1,4 @@
-use Rattle.std.proofs.Common.{◌≡◌, drop}
+use Rattle.std.proofs.Common.{◌≡◌}
 use Rattle.std.specs.Prelude.{zip}
 use Rattle.path_encoding.specs.Spots.{edge_among}
 use Rattle.path_encoding.proofs.PairLaws.{pairs_from}
