@@ -98,15 +98,15 @@ module _ (it : SoundFunc) (spots : PathSpots) (rows : List (List Part)) (point :
     return_off true range value = (inl off, ranged_off value range)
     return_off false range value = tt
 
-    branch_off : (same : Bool) (number on_one on_zero : ℕ) → Each Says (branch_clauses same (block_var spots at) number on_one on_zero)
-    branch_off true number on_one on_zero = tt
-    branch_off false number on_one on_zero = (inl off, (inl off, tt))
+    branch_off : (same : Bool) (number when_set when_clear : ℕ) → Each Says (branch_clauses same (block_var spots at) number when_set when_clear)
+    branch_off true number when_set when_clear = tt
+    branch_off false number when_set when_clear = (inl off, (inl off, tt))
 
     pub end_off : (terminator : End) (cases : List (Case × ℕ)) → Each (IsCaseSaid point (asked_var it spots terminator)) cases → Each Says (end_clauses it spots at cases terminator)
     end_off end.RetVoid cases said = tt
     end_off (end.Ret width value) cases said = return_off it.func.ret_noundef it.func.ret_range (operand_vars it spots value)
     end_off (end.Br to) cases said = tt
-    end_off (end.CondBr condition on_one on_zero) cases said = (inl off, branch_off (eqb (place_with it.func on_one) (place_with it.func on_zero)) (operand_vars it spots condition).number (edge_to it spots at (place_with it.func on_one)) (edge_to it spots at (place_with it.func on_zero)))
+    end_off (end.CondBr condition when_set when_clear) cases said = (inl off, branch_off (eqb (place_with it.func when_set) (place_with it.func when_clear)) (operand_vars it spots condition).number (edge_to it spots at (place_with it.func when_set)) (edge_to it spots at (place_with it.func when_clear)))
     end_off (end.Switch width value default written) cases said = (
       inl off,
       Each-append Says (flat_map (each_case it spots at (operand_vars it spots value).number) cases) (default_clause (block_var spots at) cases (edge_to it spots at (place_with it.func default)) ∷ []) (cases_off (operand_vars it spots value).number cases said) (inl off, tt),
@@ -167,19 +167,19 @@ module _ (it : SoundFunc) (spots : PathSpots) (rows : List (List Part)) (point :
       goes_same : (a b : List ℕ) → Goes a ≡ Goes b → a ≡ b
       goes_same a b same = cc same
 
-      branch_number : (on_one on_zero : List ℕ) (val : Val) → Some (branch on_one on_zero val) ≡ Some (Goes next) → (n : ℕ) × (val ≡ Num n) × (cond (eqb n 1) on_one on_zero ≡ next)
-      branch_number on_one on_zero Poison same = absurd (cc same)
-      branch_number on_one on_zero (Num n) same = (n, refl, cc same)
+      branch_number : (when_set when_clear : List ℕ) (val : Val) → Some (branch when_set when_clear val) ≡ Some (Goes next) → (n : ℕ) × (val ≡ Num n) × (cond (eqb n 1) when_set when_clear ≡ next)
+      branch_number when_set when_clear Poison same = absurd (cc same)
+      branch_number when_set when_clear (Num n) same = (n, refl, cc same)
 
       choose_number : (default : List ℕ) (cases : List Case) (val : Val) → Some (choose default cases val) ≡ Some (Goes next) → (n : ℕ) × (val ≡ Num n) × (unwrap_or (lookup (λ value. eqb value n) (map (λ (case : Case). (case.value, case.to)) cases)) default ≡ next)
       choose_number default cases Poison same = absurd (cc same)
       choose_number default cases (Num n) same = (n, refl, cc same)
 
-      fork_true : (same : Bool) (block : ℕ) (operand : Operand) (n : ℕ) (on_one on_zero : List ℕ) → IsNumber operand n → n < 2 → cond (eqb n 1) on_one on_zero ≡ next → (on_one ≡ next → OnEdge on_one) → (on_zero ≡ next → OnEdge on_zero)
-          → Each Says (branch_clauses same block (operand_vars it spots operand).number (edge_to it spots at (place_with it.func on_one)) (edge_to it spots at (place_with it.func on_zero)))
-      fork_true true block operand n on_one on_zero value few is when_one when_zero = tt
-      fork_true false block operand n on_one on_zero value few is when_one when_zero =
-          by_test (λ (test : Bool). cond test on_one on_zero ≡ next → eqb n 1 ≡ test → Each Says (branch_clauses false block (operand_vars it spots operand).number (edge_to it spots at (place_with it.func on_one)) (edge_to it spots at (place_with it.func on_zero)))) (eqb n 1)
+      fork_true : (same : Bool) (block : ℕ) (operand : Operand) (n : ℕ) (when_set when_clear : List ℕ) → IsNumber operand n → n < 2 → cond (eqb n 1) when_set when_clear ≡ next → (when_set ≡ next → OnEdge when_set) → (when_clear ≡ next → OnEdge when_clear)
+          → Each Says (branch_clauses same block (operand_vars it spots operand).number (edge_to it spots at (place_with it.func when_set)) (edge_to it spots at (place_with it.func when_clear)))
+      fork_true true block operand n when_set when_clear value few is when_one when_zero = tt
+      fork_true false block operand n when_set when_clear value few is when_one when_zero =
+          by_test (λ (test : Bool). cond test when_set when_clear ≡ next → eqb n 1 ≡ test → Each Says (branch_clauses false block (operand_vars it spots operand).number (edge_to it spots at (place_with it.func when_set)) (edge_to it spots at (place_with it.func when_clear)))) (eqb n 1)
           (λ yes to test.
           let one : n ≡ 1 = (Decides-eqb n 1).0 yes in
           (inr (inr (inl (when_one to))), (inr (inl (omega (arith, ints, value.number, one))), tt)))
@@ -234,14 +234,14 @@ module _ (it : SoundFunc) (spots : PathSpots) (rows : List (List Part)) (point :
           never true (Num n) same = cc same
           never false (Num n) same = cc same
       goes_true (end.Br to) vars agree few apart said goes when = tt
-      goes_true (end.CondBr condition on_one on_zero) vars agree few apart said goes when =
-          let agrees = agrees_with 1 condition (Goal on_one ∷ Goal on_zero ∷ []) agree in
-          let (n, is, to) = branch_number on_one on_zero (value_at (operand_vars it spots condition) point) (sym (ap (option_map (branch on_one on_zero)) agrees.value) ∙ goes) in
+      goes_true (end.CondBr condition when_set when_clear) vars agree few apart said goes when =
+          let agrees = agrees_with 1 condition (Goal when_set ∷ Goal when_clear ∷ []) agree in
+          let (n, is, to) = branch_number when_set when_clear (value_at (operand_vars it spots condition) point) (sym (ap (option_map (branch when_set when_clear)) agrees.value) ∙ goes) in
           let value = number_of 1 condition n agrees is in
           let fits = agrees.fits.number in (
             inr (inl value.mark),
-            fork_true (eqb (place_with it.func on_one) (place_with it.func on_zero)) (block_var spots at) condition n on_one on_zero value (omega (arith, ints, value.number, fits.1)) to
-                (when on_one (in_here on_one (on_zero ∷ []))) (when on_zero (in_there on_one on_zero (on_zero ∷ []) (in_here on_zero []))),
+            fork_true (eqb (place_with it.func when_set) (place_with it.func when_clear)) (block_var spots at) condition n when_set when_clear value (omega (arith, ints, value.number, fits.1)) to
+                (when when_set (in_here when_set (when_clear ∷ []))) (when when_clear (in_there when_set when_clear (when_clear ∷ []) (in_here when_clear []))),
           )
       goes_true (end.Switch width operand default cases) vars agree few apart said goes when =
           let agrees = agrees_with width operand (Goal default ∷ map (λ (case : Case). Goal case.to) cases) agree in
@@ -287,11 +287,11 @@ module _ (it : SoundFunc) (spots : PathSpots) (rows : List (List Part)) (point :
         let agrees = agree value width (in_here (Use value width) []) in
         return_true it.func.ret_noundef it.func.ret_range (block_var spots at) width value result agrees (sym (ap (option_map (return_of it.func width)) agrees.value) ∙ is)
     returns_true at (end.Br to) cases result agree is = absurd (cc is)
-    returns_true at (end.CondBr condition on_one on_zero) cases result agree is =
-        let agrees = agree condition 1 (in_here (Use condition 1) (Goal on_one ∷ Goal on_zero ∷ [])) in
-        absurd (never (value_at (operand_vars it spots condition) point) (sym (ap (option_map (branch on_one on_zero)) agrees.value) ∙ is))
+    returns_true at (end.CondBr condition when_set when_clear) cases result agree is =
+        let agrees = agree condition 1 (in_here (Use condition 1) (Goal when_set ∷ Goal when_clear ∷ [])) in
+        absurd (never (value_at (operand_vars it spots condition) point) (sym (ap (option_map (branch when_set when_clear)) agrees.value) ∙ is))
       where
-        never : (val : Val) → Some (branch on_one on_zero val) ≡ Some (Returns result) → ⊥
+        never : (val : Val) → Some (branch when_set when_clear val) ≡ Some (Returns result) → ⊥
         never Poison same = cc same
         never (Num n) same = cc same
     returns_true at (end.Switch width value default written) cases result agree is =

@@ -76,7 +76,7 @@ goes_so : (terminator : End) (target : List ℕ) → Contains (targets_of termin
 goes_so end.RetVoid target there = absurd (no_item target there)
 goes_so (end.Ret width value) target there = absurd (no_item target there)
 goes_so (end.Br to) target there = refl
-goes_so (end.CondBr condition on_one on_zero) target there = refl
+goes_so (end.CondBr condition when_set when_clear) target there = refl
 goes_so (end.Switch width value default cases) target there = refl
 goes_so end.Unreachable target there = absurd (no_item target there)
 

@@ -142,9 +142,9 @@ module _ (it : SoundFunc) (spots : PathSpots) where
   return_over true range block value = ((tt, (tt, tt)), ranged_over block value range)
   return_over false range block value = tt
 
-  branch_over : (same : Bool) (block number on_one on_zero : ℕ) → OverVars (branch_clauses same block number on_one on_zero)
-  branch_over true block number on_one on_zero = tt
-  branch_over false block number on_one on_zero = ((tt, (tt, (tt, tt))), ((tt, (tt, (tt, tt))), tt))
+  branch_over : (same : Bool) (block number when_set when_clear : ℕ) → OverVars (branch_clauses same block number when_set when_clear)
+  branch_over true block number when_set when_clear = tt
+  branch_over false block number when_set when_clear = ((tt, (tt, (tt, tt))), ((tt, (tt, (tt, tt))), tt))
 
   case_over : (at number : ℕ) (case : Case × ℕ) → OverVars (each_case it spots at number case)
   case_over at number case = ((tt, (tt, tt)), ((tt, (tt, tt)), ((tt, (tt, (tt, tt))), ((tt, (tt, (tt, tt))), tt))))
@@ -165,9 +165,9 @@ module _ (it : SoundFunc) (spots : PathSpots) where
   end_over at cases end.RetVoid = tt
   end_over at cases (end.Ret width value) = return_over it.func.ret_noundef it.func.ret_range (block_var spots at) (operand_vars it spots value)
   end_over at cases (end.Br to) = tt
-  end_over at cases (end.CondBr condition on_one on_zero) = (
+  end_over at cases (end.CondBr condition when_set when_clear) = (
     (tt, (tt, tt)),
-    branch_over (eqb (place_with it.func on_one) (place_with it.func on_zero)) (block_var spots at) (operand_vars it spots condition).number (edge_to it spots at (place_with it.func on_one)) (edge_to it spots at (place_with it.func on_zero)),
+    branch_over (eqb (place_with it.func when_set) (place_with it.func when_clear)) (block_var spots at) (operand_vars it spots condition).number (edge_to it spots at (place_with it.func when_set)) (edge_to it spots at (place_with it.func when_clear)),
   )
   end_over at cases (end.Switch width value default written) = switch_over at (operand_vars it spots value) default cases
   end_over at cases end.Unreachable = ((tt, tt), tt)

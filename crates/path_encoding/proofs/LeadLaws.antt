@@ -148,30 +148,30 @@ module _ (it : SoundFunc) (spots : PathSpots) (rows : List (List Part)) (point :
     leads_to (end.Ret width value) next vars goes is agree few each = absurd (true≢false (sym goes))
     leads_to (end.Br to) next vars goes is agree few each =
         ⊎_elim (λ same. ap (λ (label : List ℕ). Some (Goes label)) same) (λ none. absurd (no_item next none)) (cons_cases to [] next is.named)
-    leads_to (end.CondBr condition on_one on_zero) next vars goes is agree few each =
-        let agrees = agrees_with 1 condition (Goal on_one ∷ Goal on_zero ∷ []) agree in
+    leads_to (end.CondBr condition when_set when_clear) next vars goes is agree few each =
+        let agrees = agrees_with 1 condition (Goal when_set ∷ Goal when_clear ∷ []) agree in
         let value = numbered (block_var spots at) 1 condition on agrees each.0 in
         let n = number_of condition in
         let fits = agrees.fits in
         let few_numbers : n < 2 = omega (arith, ints, value.number, fits.number.1) in
-        let one_named = in_here on_one (on_zero ∷ []) in
-        let zero_named = in_there on_one on_zero (on_zero ∷ []) (in_here on_zero []) in
-        let goal : cond (eqb n 1) on_one on_zero ≡ next =
-        by_test (λ (same : Bool). Each Says (branch_clauses same (block_var spots at) (operand_vars it spots condition).number (edge_to it spots at (place_with it.func on_one)) (edge_to it spots at (place_with it.func on_zero))) → eqb (place_with it.func on_one) (place_with it.func on_zero) ≡ same → cond (eqb n 1) on_one on_zero ≡ next) (eqb (place_with it.func on_one) (place_with it.func on_zero))
+        let one_named = in_here when_set (when_clear ∷ []) in
+        let zero_named = in_there when_set when_clear (when_clear ∷ []) (in_here when_clear []) in
+        let goal : cond (eqb n 1) when_set when_clear ≡ next =
+        by_test (λ (same : Bool). Each Says (branch_clauses same (block_var spots at) (operand_vars it spots condition).number (edge_to it spots at (place_with it.func when_set)) (edge_to it spots at (place_with it.func when_clear))) → eqb (place_with it.func when_set) (place_with it.func when_clear) ≡ same → cond (eqb n 1) when_set when_clear ≡ next) (eqb (place_with it.func when_set) (place_with it.func when_clear))
         (λ yes said test.
-        let one : on_one ≡ on_zero = is.one_place on_one on_zero one_named zero_named ((Decides-eqb (place_with it.func on_one) (place_with it.func on_zero)).0 yes) in
-        let zero_is : on_zero ≡ next = ⊎_elim (λ same. sym one ∙ same) (λ later. ⊎_elim (λ same. same) (λ none. absurd (no_item next none)) (cons_cases on_zero [] next later)) (cons_cases on_one (on_zero ∷ []) next is.named) in
-        cond_both (eqb n 1) on_one on_zero (λ (label : List ℕ). label ≡ next) (λ _. one ∙ zero_is) (λ _. zero_is))
+        let one : when_set ≡ when_clear = is.one_place when_set when_clear one_named zero_named ((Decides-eqb (place_with it.func when_set) (place_with it.func when_clear)).0 yes) in
+        let zero_is : when_clear ≡ next = ⊎_elim (λ same. sym one ∙ same) (λ later. ⊎_elim (λ same. same) (λ none. absurd (no_item next none)) (cons_cases when_clear [] next later)) (cons_cases when_set (when_clear ∷ []) next is.named) in
+        cond_both (eqb n 1) when_set when_clear (λ (label : List ℕ). label ≡ next) (λ _. one ∙ zero_is) (λ _. zero_is))
         (λ no said test.
-        cond_both (eqb n 1) on_one on_zero (λ (label : List ℕ). label ≡ next)
+        cond_both (eqb n 1) when_set when_clear (λ (label : List ℕ). label ≡ next)
         (λ yes.
         let high : n ≡ 1 = (Decides-eqb n 1).0 yes in
-        is.only_one on_one one_named (only (without_first (without_first said.0 (λ low. omega (arith, ints, on, low))) (λ low. omega (arith, ints, low, value.number, high)))))
+        is.only_one when_set one_named (only (without_first (without_first said.0 (λ low. omega (arith, ints, on, low))) (λ low. omega (arith, ints, low, value.number, high)))))
         (λ other.
         let low : n ≡ 0 = small n few_numbers other in
-        is.only_one on_zero zero_named (only (without_first (without_first said.1.0 (λ below. omega (arith, ints, on, below))) (λ high. omega (arith, ints, high, value.number, low))))))
+        is.only_one when_clear zero_named (only (without_first (without_first said.1.0 (λ below. omega (arith, ints, on, below))) (λ high. omega (arith, ints, high, value.number, low))))))
         each.1 refl in
-        ap (option_map (branch on_one on_zero)) value.value ∙ ap (λ (label : List ℕ). Some (Goes label)) goal
+        ap (option_map (branch when_set when_clear)) value.value ∙ ap (λ (label : List ℕ). Some (Goes label)) goal
       where
         small : (n : ℕ) → n < 2 → eqb n 1 ≡ false → n ≡ 0
         small n few other = grind (arith, nat_tests)
@@ -217,7 +217,7 @@ module _ (it : SoundFunc) (spots : PathSpots) (rows : List (List Part)) (point :
     returns_there end.RetVoid cases stays agree each = (ret.Void, refl)
     returns_there (end.Ret width value) cases stays agree each = return_there it.func.ret_noundef it.func.ret_range width value (agrees_with width value [] agree) each
     returns_there (end.Br to) cases stays agree each = absurd (true≢false stays)
-    returns_there (end.CondBr condition on_one on_zero) cases stays agree each = absurd (true≢false stays)
+    returns_there (end.CondBr condition when_set when_clear) cases stays agree each = absurd (true≢false stays)
     returns_there (end.Switch width value default written) cases stays agree each = absurd (true≢false stays)
     returns_there end.Unreachable cases stays agree each = absurd (omega (arith, ints, on, only each.0))
 

@@ -115,7 +115,7 @@ module _ (it : SoundFunc) (spots : PathSpots) (at : ℕ) where
   end_same end.RetVoid sources targets vars are to = refl
   end_same (end.Ret width value) sources targets vars are to = ap (λ (l : List Source). end_to it spots at (source_vars spots (first_of l)) targets vars (end.Ret width value)) are
   end_same (end.Br label) sources targets vars are to = refl
-  end_same (end.CondBr condition on_one on_zero) sources targets vars are to = λ i. end_to it spots at (source_vars spots (first_of (are i))) (to i) vars (end.CondBr condition on_one on_zero)
+  end_same (end.CondBr condition when_set when_clear) sources targets vars are to = λ i. end_to it spots at (source_vars spots (first_of (are i))) (to i) vars (end.CondBr condition when_set when_clear)
   end_same (end.Switch width value default cases) sources targets vars are to =
       (λ i. end_to it spots at (source_vars spots (first_of (are i))) (to i) vars (end.Switch width value default cases))
       ∙ ap (λ (middle : List (List Lit)). switch_head ∷ (middle ++ switch_last ∷ [])) (cases_same (source_vars spots (source_at it.func value)).number cases vars)

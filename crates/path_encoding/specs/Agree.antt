@@ -66,7 +66,7 @@ abbrev pub asked_var : SoundFunc → PathSpots → End → ℕ
 asked_var it spots end.RetVoid = 0
 asked_var it spots (end.Ret width value) = 0
 asked_var it spots (end.Br to) = 0
-asked_var it spots (end.CondBr cond on_one on_zero) = 0
+asked_var it spots (end.CondBr cond when_set when_clear) = 0
 asked_var it spots (end.Switch width value default cases) = (operand_vars it spots value).number
 asked_var it spots end.Unreachable = 0
 

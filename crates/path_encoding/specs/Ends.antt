@@ -56,14 +56,14 @@ return_clauses false range block value = []
 -- ---- branches
 
 -- on 1 by the first edge, on 0 by the second; where both targets are one block, nothing is asked of the number
-abbrev pub branch_clauses : (same : Bool) → (block number : ℕ) → (on_one on_zero : ℕ) → List (List Lit)
-branch_clauses true block number on_one on_zero = []
-branch_clauses false block number on_one on_zero = (is_off block ∷ is_off number ∷ is_on on_one ∷ []) ∷ (is_off block ∷ is_on number ∷ is_on on_zero ∷ []) ∷ []
+abbrev pub branch_clauses : (same : Bool) → (block number : ℕ) → (when_set when_clear : ℕ) → List (List Lit)
+branch_clauses true block number when_set when_clear = []
+branch_clauses false block number when_set when_clear = (is_off block ∷ is_off number ∷ is_on when_set ∷ []) ∷ (is_off block ∷ is_on number ∷ is_on when_clear ∷ []) ∷ []
 
 -- of a block that is left for the blocks at these places
-abbrev pub fork_clauses : SoundFunc → PathSpots → ℕ → ValueVars → (on_one on_zero : ℕ) → List (List Lit)
-fork_clauses it spots at value on_one on_zero =
-    not_poison (block_var spots at) value ∷ branch_clauses (on_one == on_zero) (block_var spots at) value.number (edge_to it spots at on_one) (edge_to it spots at on_zero)
+abbrev pub fork_clauses : SoundFunc → PathSpots → ℕ → ValueVars → (when_set when_clear : ℕ) → List (List Lit)
+fork_clauses it spots at value when_set when_clear =
+    not_poison (block_var spots at) value ∷ branch_clauses (when_set == when_clear) (block_var spots at) value.number (edge_to it spots at when_set) (edge_to it spots at when_clear)
 
 -- ---- switches
 
@@ -94,7 +94,7 @@ abbrev pub end_clauses : SoundFunc → PathSpots → ℕ → List (Case × ℕ) 
 end_clauses it spots at cases end.RetVoid = []
 end_clauses it spots at cases (end.Ret width value) = return_clauses it.func.ret_noundef it.func.ret_range (block_var spots at) (operand_vars it spots value)
 end_clauses it spots at cases (end.Br to) = []
-end_clauses it spots at cases (end.CondBr cond on_one on_zero) = fork_clauses it spots at (operand_vars it spots cond) (place_with it.func on_one) (place_with it.func on_zero)
+end_clauses it spots at cases (end.CondBr cond when_set when_clear) = fork_clauses it spots at (operand_vars it spots cond) (place_with it.func when_set) (place_with it.func when_clear)
 end_clauses it spots at cases (end.Switch width value default written) = switch_clauses it spots at (operand_vars it spots value) default cases
 end_clauses it spots at cases end.Unreachable = (is_off (block_var spots at) ∷ []) ∷ []
 

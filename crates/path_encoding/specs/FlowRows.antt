@@ -31,7 +31,7 @@ abbrev pub goes_on : End → Bool
 goes_on end.RetVoid = false
 goes_on (end.Ret width value) = false
 goes_on (end.Br to) = true
-goes_on (end.CondBr cond on_one on_zero) = true
+goes_on (end.CondBr cond when_set when_clear) = true
 goes_on (end.Switch width value default cases) = true
 goes_on end.Unreachable = false
 

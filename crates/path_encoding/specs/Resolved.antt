@@ -44,6 +44,6 @@ abbrev pub end_to : SoundFunc → PathSpots → ℕ → ValueVars → (targets v
 end_to it spots at value targets vars end.RetVoid = []
 end_to it spots at value targets vars (end.Ret width operand) = return_clauses it.func.ret_noundef it.func.ret_range (block_var spots at) value
 end_to it spots at value targets vars (end.Br to) = []
-end_to it spots at value targets vars (end.CondBr cond on_one on_zero) = fork_clauses it spots at value (slice_index targets 0) (slice_index targets 1)
+end_to it spots at value targets vars (end.CondBr cond when_set when_clear) = fork_clauses it spots at value (slice_index targets 0) (slice_index targets 1)
 end_to it spots at value targets vars (end.Switch width operand default cases) = switch_to it spots at value (slice_index targets 0) (drop 1 targets) cases vars
 end_to it spots at value targets vars end.Unreachable = (is_off (block_var spots at) ∷ []) ∷ []

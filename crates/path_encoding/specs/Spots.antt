@@ -85,7 +85,7 @@ abbrev pub cases_of : End → List Case
 cases_of end.RetVoid = []
 cases_of (end.Ret width value) = []
 cases_of (end.Br to) = []
-cases_of (end.CondBr cond on_one on_zero) = []
+cases_of (end.CondBr cond when_set when_clear) = []
 cases_of (end.Switch width value default cases) = cases
 cases_of end.Unreachable = []
 

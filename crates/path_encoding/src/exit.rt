@@ -191,13 +191,13 @@ fn add_fork(
           (slice_index (places targets.now) 1));
     }) }
 {
-    let on_one = block_named(targets, 0);
-    let on_zero = block_named(targets, 1);
+    let when_set = block_named(targets, 0);
+    let when_clear = block_named(targets, 1);
     let block = spots.blocks[leaving.at as usize];
-    let one = edge_to(sound, spots, leaving.at, on_one);
-    let zero = edge_to(sound, spots, leaving.at, on_zero);
+    let one = edge_to(sound, spots, leaving.at, when_set);
+    let zero = edge_to(sound, spots, leaving.at, when_clear);
     add_not_poison(alloc, block, leaving.value, into)?;
-    let same = on_one.0 == on_zero.0;
+    let same = when_set.0 == when_clear.0;
     add_branch(alloc, same, block, leaving.value.number, one, zero, into)
 }
 
@@ -206,25 +206,25 @@ fn add_branch(
     same: bool,
     block: u32,
     number: u32,
-    on_one: u32,
-    on_zero: u32,
+    when_set: u32,
+    when_clear: u32,
     into: &mut System,
 ) -> Result<(), NoMemory>
     requires block { block < length into.old.ranges }
     requires number { number < length into.old.ranges }
-    requires on_one { on_one < length into.old.ranges }
-    requires on_zero { on_zero < length into.old.ranges }
+    requires when_set { when_set < length into.old.ranges }
+    requires when_clear { when_clear < length into.old.ranges }
     requires room { length into.old.clauses
-        + length (spec.branch_clauses same block number on_one on_zero) < 2 ^ 31 }
+        + length (spec.branch_clauses same block number when_set when_clear) < 2 ^ 31 }
     ensures { OnOk result (into.new ≡ record into.old {
       clauses = into.old.clauses
-          ++ map clause_of (spec.branch_clauses same block number on_one on_zero);
+          ++ map clause_of (spec.branch_clauses same block number when_set when_clear);
     }) }
 {
     if same {
         return Ok(());
     }
     let off = is_off(block);
-    add_lits(alloc, into, &[off, is_off(number), is_on(on_one)])?;
-    add_lits(alloc, into, &[off, is_on(number), is_on(on_zero)])
+    add_lits(alloc, into, &[off, is_off(number), is_on(when_set)])?;
+    add_lits(alloc, into, &[off, is_on(number), is_on(when_clear)])
 }

@@ -167,10 +167,6 @@ mod tests {
     use super::*;
     use std::test::Fail;
 
-    fn lit(term: Term, side: Side, bound: i128) -> Lit {
-        Lit { term, side, bound }
-    }
-
     #[test]
     fn rows_and_clauses_stand_in_normal_form(rt: HostRuntime) -> Result<(), Fail> {
         let mut system = System::new(rt.alloc());
@@ -189,12 +185,36 @@ mod tests {
         let row = [Part { coeff: 5, var: 0 }, Part { coeff: 5, var: 1 }];
         assert_eq!(rt; add_sum(rt.alloc(), &mut system, &parts)?, 0);
         let lits = [
-            lit(Term::Var(1), Side::Ge, 1),
-            lit(Term::Row(0), Side::Ge, 1),
-            lit(Term::Var(1), Side::Ge, 1),
-            lit(Term::Var(1), Side::Le, 1),
-            lit(Term::Var(1), Side::Ge, 2),
-            lit(Term::Row(0), Side::Ge, 1),
+            Lit {
+                term: Term::Var(1),
+                side: Side::Ge,
+                bound: 1,
+            },
+            Lit {
+                term: Term::Row(0),
+                side: Side::Ge,
+                bound: 1,
+            },
+            Lit {
+                term: Term::Var(1),
+                side: Side::Ge,
+                bound: 1,
+            },
+            Lit {
+                term: Term::Var(1),
+                side: Side::Le,
+                bound: 1,
+            },
+            Lit {
+                term: Term::Var(1),
+                side: Side::Ge,
+                bound: 2,
+            },
+            Lit {
+                term: Term::Row(0),
+                side: Side::Ge,
+                bound: 1,
+            },
         ];
         let clause = [lits[0], lits[1], lits[3], lits[4]];
         add_lits(rt.alloc(), &mut system, &lits)?;
