@@ -4,7 +4,8 @@ ghost use Rattle.bound_trail.specs.Reach.{Reaches};
 
 use mix_system::{Lit, Side, Term};
 
-/// A bound in force on one side of a term, and the literal of the trail that gave it, where it isn't the variable's range.
+/// A bound in force on one side of a term, and the literal of the trail that gave it, where it
+/// isn't the variable's range.
 #[derive(Clone, Copy, Debug)]
 pub struct Edge {
     pub bound: Option<i128>,

@@ -13,7 +13,8 @@ use wx_base::NoMemory;
 
 /// Literals put one after another onto the ranges of a system's variables, in levels.
 ///
-/// Contracts see the ranges, the number of rows, the literals and the places at which the levels 1, 2, .. begin.
+/// Contracts see the ranges, the number of rows, the literals and the places at which the levels
+/// 1, 2, .. begin.
 #[derive(Debug, Drop)]
 pub struct BoundTrail {
     ranges: Vec<(i128, i128)>,
@@ -42,7 +43,12 @@ impl BoundTrail {
     /// The trail with no literal and no level, over the ranges and rows of a system.
     pub fn new(alloc: Global, system: &System) -> Result<BoundTrail, NoMemory>
         ensures { IfOk result
-            (λ trail. trail ≡ record { ranges = system.now.ranges; rows = length system.now.rows; lits = []; levels = [] }) }
+            (λ trail. trail ≡ record {
+              ranges = system.now.ranges;
+              rows = length system.now.rows;
+              lits = [];
+              levels = [];
+            }) }
     {
         let ranges = ranges_of(alloc, system)?;
         let rows = system.rows();
@@ -108,12 +114,13 @@ impl BoundTrail {
         contradicts(edge.bound, lit)
     }
 
-    /// The place of the first literal of the trail that makes a false literal false, and `None` where the ranges alone do.
-    /// It takes no memory.
+    /// The place of the first literal of the trail that makes a false literal false, and `None`
+    /// where the ranges alone do. It takes no memory.
     pub fn cause(&self, lit: &Lit) -> Option<u32>
         requires term { Exists (length self.now.ranges) self.now.rows lit.now.term }
         requires is_false { IsFalseIn (box self.now) lit.now }
-        ensures { MatchOption result (IsFalseIn (range_bounds self.now.ranges) lit.now) (IsCause self.now lit.now) }
+        ensures { MatchOption result (IsFalseIn (range_bounds self.now.ranges) lit.now)
+            (IsCause self.now lit.now) }
     {
         let mut at = self.lits.len() as u32;
         let mut edge = self.edge(lit.term, opposite(lit.side));
@@ -132,7 +139,8 @@ impl BoundTrail {
         requires term { Exists (length self.old.ranges) self.old.rows lit.now.term }
         requires inner { IsInner lit.now.bound }
         requires open { IsOpen (box self.old) lit.now }
-        ensures ok { OnOk result (self.new ≡ record self.old { lits = self.old.lits ++ lit.now ∷ [] }) }
+        ensures ok { OnOk result (self.new ≡ record self.old
+            { lits = self.old.lits ++ lit.now ∷ [] }) }
         ensures err { OnErr result (self.new ≡ self.old) }
         ensures trail { IsTrail self.new }
     {
@@ -154,21 +162,35 @@ impl BoundTrail {
         Ok(())
     }
 
-    /// Begins a level behind the literals so far. Where memory is wanting the trail stands as before.
-    pub fn open_level(&mut self) -> Result<(), NoMemory>
-        ensures ok { OnOk result (self.new ≡ record self.old { levels = self.old.levels ++ length self.old.lits ∷ [] }) }
+    /// Begins a level with a literal that is open. Where memory is wanting the trail stands as
+    /// before.
+    pub fn open_level(&mut self, lit: &Lit) -> Result<(), NoMemory>
+        requires term { Exists (length self.old.ranges) self.old.rows lit.now.term }
+        requires inner { IsInner lit.now.bound }
+        requires open { IsOpen (box self.old) lit.now }
+        ensures ok { OnOk result (self.new ≡ record self.old {
+          lits = self.old.lits ++ lit.now ∷ [];
+          levels = self.old.levels ++ length self.old.lits ∷ [];
+        }) }
         ensures err { OnErr result (self.new ≡ self.old) }
         ensures trail { IsTrail self.new }
     {
-        let place = self.lits.len() as u32;
-        self.levels.push(place)?;
+        let count = self.levels.len();
+        self.begin()?;
+        if self.push(lit).is_err() {
+            self.levels.truncate(count);
+            return Err(NoMemory);
+        }
         Ok(())
     }
 
     /// Gives up all levels above one, and their literals. It takes no memory.
     pub fn back_to(&mut self, level: u32)
         requires { level ≤ length self.old.levels }
-        ensures back { self.new ≡ record self.old { lits = take (level_end self.old level) self.old.lits; levels = take level self.old.levels } }
+        ensures back { self.new ≡ record self.old {
+          lits = take (level_end self.old level) self.old.lits;
+          levels = take level self.old.levels;
+        } }
         ensures trail { IsTrail self.new }
     {
         if (level as usize) < self.levels.len() {
@@ -176,6 +198,18 @@ impl BoundTrail {
             self.levels.truncate(level as usize);
             self.shorten(count);
         }
+    }
+
+    // Begins a level behind the literals so far.
+    fn begin(&mut self) -> Result<(), NoMemory>
+        ensures ok { OnOk result (self.new ≡ record self.old
+            { levels = self.old.levels ++ length self.old.lits ∷ [] }) }
+        ensures err { OnErr result (self.new ≡ self.old) }
+        ensures trail { IsTrail self.new }
+    {
+        let place = self.lits.len() as u32;
+        self.levels.push(place)?;
+        Ok(())
     }
 
     // Gives up the literals from a place on, where no level begins behind it.
@@ -194,7 +228,8 @@ impl BoundTrail {
     fn drop_last(&mut self)
         requires some { 0 < length self.old.lits }
         requires levels { All (λ place. place + 1 ≤ length self.old.lits) self.old.levels }
-        ensures { self.new ≡ record self.old { lits = take (length self.old.lits - 1) self.old.lits } }
+        ensures { self.new ≡ record self.old
+            { lits = take (length self.old.lits - 1) self.old.lits } }
     {
         let at = self.lits.len() - 1;
         let lit = self.lits[at];
@@ -207,7 +242,8 @@ impl BoundTrail {
     // The bound in force on a side of a term.
     fn edge(&self, term: Term, side: Side) -> Edge
         requires { Exists (length self.now.ranges) self.now.rows term }
-        ensures edge { result ≡ edge_after self.now.ranges self.now.rows self.now.lits (length self.now.lits) (place_of (length self.now.ranges) term side) }
+        ensures edge { result ≡ edge_after self.now.ranges self.now.rows self.now.lits
+            (length self.now.lits) (place_of (length self.now.ranges) term side) }
         ensures trail { IsTrail self.now }
     {
         let place = self.place(term, side);
@@ -218,7 +254,8 @@ impl BoundTrail {
     fn link(&self, at: u32) -> Edge
         requires { at < length self.now.lits }
         ensures edge { let lit = slice_index_or self.now.lits at blank_lit in
-            result ≡ edge_after self.now.ranges self.now.rows self.now.lits at (place_of (length self.now.ranges) lit.term lit.side) }
+            result ≡ edge_after self.now.ranges self.now.rows self.now.lits at
+            (place_of (length self.now.ranges) lit.term lit.side) }
         ensures trail { IsTrail self.now }
     {
         self.links[at as usize]

@@ -7,12 +7,12 @@ use Rattle.std.proofs.lemmas.List.Elements.{All-contains, All-contains_itself, A
 use Rattle.mix_system.specs.declared.literal.Lit.{Lit}
 use Rattle.mix_system.specs.Lit.{negation}
 use Rattle.mix_system.specs.System.{IsClause, IsInner, Exists}
-use Rattle.mix_system.specs.Bounds.{Entails, IsIn, IsFalseIn, unit_bounds}
+use Rattle.mix_system.specs.Bounds.{Entails, IsIn, IsFalseIn, range_bounds, unit_bounds}
 use Rattle.mix_system.specs.Follows.{LeavesNone}
 use Rattle.mix_system.proofs.AnyLaws.{Any-one_holds}
 use Rattle.mix_system.proofs.BoundLaws.{IsIn-none, IsIn-cons_cases, IsIn-entailed, negation-twice, atom-negation}
 use Rattle.bound_trail.specs.Edges.{blank_lit}
-use Rattle.bound_trail.specs.Trail.{Trail, box, box_with, box_at, level_end, BecameFalse, IsTrail}
+use Rattle.bound_trail.specs.Trail.{Trail, box, box_with, box_at, level_end, BecameFalse, IsCause, IsTrail}
 use Rattle.bound_trail.proofs.EntailmentLaws.{entails_itself}
 use Rattle.bound_trail.proofs.BoxLaws.{in_more, in_box, in_put, in_ranges, consistent_box}
 use Rattle.clause_search.specs.Settled.{HasTrue, IsSettled}
@@ -54,6 +54,23 @@ level_became_false trail at level ok h is =
       before = λ earlier below is_false. (ok.opened at h blank_lit).not_true
           (in_more trail (level_end trail earlier) at lit (is.begins earlier below) (subst (IsIn (box_at trail earlier)) twice is_false));
     }
+
+-- a false literal became false on the level of the place that first made it false
+pub cause_became_false : (trail : Trail) (lit : Lit) (at level : ℕ) → IsTrail trail → IsCause trail lit at → IsLevelOf trail at level → BecameFalse trail lit level
+cause_became_false trail lit at level ok cause is =
+    let put : IsIn (box_with trail (suc at)) (negation lit) = in_put trail at (negation lit) cause.within cause.falsifies in
+    record {
+      present = is.present;
+      there = in_more trail (suc at) (level_end trail level) (negation lit) (omega (arith, is.ends)) put;
+      before = λ earlier below is_false. cause.first (in_more trail (level_end trail earlier) at (negation lit) (is.begins earlier below) is_false);
+    }
+
+pub range_became_false : (trail : Trail) (lit : Lit) → IsFalseIn (range_bounds trail.ranges) lit → BecameFalse trail lit 0
+range_became_false trail lit is_false = record {
+  present = omega arith;
+  there = in_ranges trail (level_end trail 0) (negation lit) is_false;
+  before = λ earlier below. absurd (omega arith);
+}
 
 -- some level has ended behind the place, of the first so many, or none
 abbrev FindsLevel : Trail → ℕ → ℕ → Type 0

@@ -1,5 +1,5 @@
 -- Literals that clauses imply, put one after another, and what looks at clauses come to.
-use Rattle.std.proofs.Common.{inl, ◌≡◌, ℕ, ◌+◌, ◌<◌, ◌≤◌, List, [], ◌∷◌, ◌++◌, length, length-append, Some, All, refl, sym, ap, ◌∙◌, subst, ⊎_elim, arith}
+use Rattle.std.proofs.Common.{inl, ◌≡◌, ℕ, ◌+◌, ◌<◌, ◌≤◌, List, [], ◌∷◌, ◌++◌, length, length-append, Some, Result, Ok, Err, OnErr, All, refl, sym, ap, ◌∙◌, subst, ⊎_elim, arith}
 use Rattle.std.specs.Prelude.{slice_get, Any}
 use Rattle.std.proofs.lemmas.Bool.{cases_lt}
 use Rattle.std.proofs.lemmas.List.{append-nil, append_assoc, get_or_append_left, get_or_push, get_or_at, take-append-le, take_at, length_push}
@@ -12,11 +12,16 @@ use Rattle.mix_system.specs.Bounds.{Entails, IsIn, range_bounds}
 use Rattle.mix_system.specs.Follows.{LeavesOne}
 use Rattle.bound_trail.specs.Trail.{box, IsOpen}
 use Rattle.clause_search.specs.Looks.{IsImplied}
-use Rattle.clause_search.specs.Search.{Search, IsImpliedAt, Propagated}
+use Rattle.clause_search.specs.Search.{Search, IsImpliedAt, HasGrown, Propagated}
 use Rattle.clause_search.specs.Passed.{IsSettledAt}
 use Rattle.bound_trail.proofs.AnywhereLaws.{any_here, any_right}
 use Rattle.bound_trail.proofs.EntailmentLaws.{entails_itself}
 use Rattle.clause_search.proofs.ReasonLaws.{with_lit}
+
+-- what holds anyway holds after want of memory
+pub on_err : {T E : Type 0} (r : Result T E) (P : Type 0) → P → OnErr r P
+on_err (Ok x) P p = tt
+on_err (Err e) P p = p
 
 -- what holds of each literal of a clause holds of the one that is left
 pub all_left : (P : Lit → Type 0) (bounds clause : List Lit) (lit : Lit) → LeavesOne bounds clause lit → All P clause → P lit
@@ -48,33 +53,34 @@ implied_more : (state : Search) (added : List Lit) (at : ℕ) → at < length st
 implied_more state added at below h d =
     rw (get_or_append_left state.trail.lits added d at below, take-append-le at state.trail.lits added (omega arith)) (h d)
 
-implied_along : (mid new : Search) (added : List Lit) (at : ℕ) → new ≡ record mid { trail = record mid.trail { lits = mid.trail.lits ++ added } } → at < length mid.trail.lits → IsImpliedAt mid at → IsImpliedAt new at
+pub implied_along : (mid new : Search) (added : List Lit) (at : ℕ) → new ≡ record mid { trail = record mid.trail { lits = mid.trail.lits ++ added } } → at < length mid.trail.lits → IsImpliedAt mid at → IsImpliedAt new at
 implied_along mid new added at e below h =
     subst (λ s. IsImpliedAt s at) (sym e) (implied_more mid added at below h)
 
-lengths : (old mid new : Search) (before between after : Tally) → (p : Propagated old mid before between) → (q : Propagated mid new between after) → length mid.trail.lits ≡ length old.trail.lits + length p.added
-lengths old mid new before between after p q =
-    ap (λ (s : Search). length s.trail.lits) p.lits ∙ length-append old.trail.lits p.added
-
-joined : (old mid new : Search) (one two : List Lit) → mid ≡ record old { trail = record old.trail { lits = old.trail.lits ++ one } } → new ≡ record mid { trail = record mid.trail { lits = mid.trail.lits ++ two } } → new ≡ record old { trail = record old.trail { lits = old.trail.lits ++ (one ++ two) } }
+pub joined : (old mid new : Search) (one two : List Lit) → mid ≡ record old { trail = record old.trail { lits = old.trail.lits ++ one } } → new ≡ record mid { trail = record mid.trail { lits = mid.trail.lits ++ two } } → new ≡ record old { trail = record old.trail { lits = old.trail.lits ++ (one ++ two) } }
 joined old mid new one two e f =
     f ∙ ap (λ (s : Search). record s { trail = record s.trail { lits = s.trail.lits ++ two } }) e
     ∙ ap (λ (xs : List Lit). record old { trail = record old.trail { lits = xs } }) (append_assoc old.trail.lits one two)
+
+abbrev pub grown_trans : (old mid new : Search) → HasGrown old mid → HasGrown mid new → HasGrown old new
+grown_trans old mid new p q = record {
+  added = p.added ++ q.added;
+  lits = joined old mid new p.added q.added p.lits q.lits;
+  implied = λ at from to. ⊎_elim
+      (λ below. implied_along mid new q.added at q.lits below (p.implied at from below))
+      (λ past. q.implied at past to)
+      (cases_lt at (length mid.trail.lits));
+}
 
 pub propagated_trans : (old mid new : Search) (before between after : Tally) → Propagated old mid before between → Propagated mid new between after → Propagated old new before after
 propagated_trans old mid new before between after p q =
     let one = p.counted in
     let two = q.counted in
     record {
-      added = p.added ++ q.added;
-      lits = joined old mid new p.added q.added p.lits q.lits;
-      implied = λ at from to. ⊎_elim
-          (λ below. implied_along mid new q.added at q.lits below (p.implied at from below))
-          (λ past. q.implied at past to)
-          (cases_lt at (length mid.trail.lits));
+      grown = grown_trans old mid new p.grown q.grown;
       counted = record {
         decisions = two.decisions ∙ one.decisions;
-        propagations = omega (arith, length-append p.added q.added, one.propagations, two.propagations);
+        propagations = omega (arith, length-append p.grown.added q.grown.added, one.propagations, two.propagations);
         conflicts = two.conflicts ∙ one.conflicts;
         splits = two.splits ∙ one.splits;
         checks = two.checks ∙ one.checks;
@@ -87,10 +93,12 @@ propagated_one state lit number clause before after among one counted =
     let lits = state.trail.lits in
     let count = length_push lits lit in
     record {
-      added = lit ∷ [];
-      lits = refl;
-      implied = λ at from to d. let e : length lits ≡ at = omega arith in
-          rw (get_or_push lits lit d at e, take_at lits (lit ∷ []) at e) (any_at_number (λ c. LeavesOne (box state.trail) c lit) state.store number clause among one);
+      grown = record {
+        added = lit ∷ [];
+        lits = refl;
+        implied = λ at from to d. let e : length lits ≡ at = omega arith in
+            rw (get_or_push lits lit d at e, take_at lits (lit ∷ []) at e) (any_at_number (λ c. LeavesOne (box state.trail) c lit) state.store number clause among one);
+      };
       counted = record {
         decisions = omega (arith, counted.decisions);
         propagations = omega (arith, counted.propagations);
@@ -107,11 +115,16 @@ units_grow old new before after p =
     omega (arith, c.decisions, c.propagations, c.conflicts, c.splits, c.checks)
 
 -- nothing was put
-pub propagated_none : (state : Search) (tally : Tally) → Propagated state state tally tally
-propagated_none state tally = record {
+abbrev pub grown_none : (state : Search) → HasGrown state state
+grown_none state = record {
   added = [];
   lits = ap (λ (xs : List Lit). record state { trail = record state.trail { lits = xs } }) (sym (append-nil state.trail.lits));
   implied = λ at from to. absurd (omega arith);
+}
+
+pub propagated_none : (state : Search) (tally : Tally) → Propagated state state tally tally
+propagated_none state tally = record {
+  grown = grown_none state;
   counted = record {
     decisions = refl;
     propagations = omega arith;

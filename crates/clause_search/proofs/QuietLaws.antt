@@ -33,8 +33,8 @@ same_end_only trail more level ok h =
 
 pub quiet_propagated : (old new : Search) (before after : Tally) → IsTrail old.trail → WasQuiet old → Propagated old new before after → WasQuiet new
 quiet_propagated old new before after ok quiet p =
-    subst WasQuiet (sym p.lits) (λ level h.
-    let same = same_end_only old.trail p.added level ok h in
+    subst WasQuiet (sym p.grown.lits) (λ level h.
+    let same = same_end_only old.trail p.grown.added level ok h in
     subst (λ bounds. All (IsSettled bounds) old.store) (sym same) (quiet level h))
 
 pub quiet_decided : (old new : Search) (lit : Lit) (before after : Tally) → IsTrail old.trail → WasQuiet old → All (IsSettled (box old.trail)) old.store → OpensLevel lit old new before after → WasQuiet new
@@ -111,10 +111,15 @@ asserting_settled state lits level lower is below =
     (cases_lt at place)))
     is.greatest
 
-pub quiet_learnt : (state : Search) (lits : List Lit) (level : ℕ) → IsTrail state.trail → WasQuiet state → level ≤ present_level state → IsAsserting state lits level → WasQuiet (record { store = state.store ++ lits ∷ []; trail = cut_to state.trail level })
-quiet_learnt state lits level ok quiet h is lower below =
+-- going back with a clause that is settled at the end of each level below
+pub quiet_cut : (state : Search) (lits : List Lit) (level : ℕ) → IsTrail state.trail → WasQuiet state → level ≤ present_level state
+    → ((lower : ℕ) → lower < level → IsSettled (box_at state.trail lower) lits) → WasQuiet (record { store = state.store ++ lits ∷ []; trail = cut_to state.trail level })
+quiet_cut state lits level ok quiet h settled lower below =
     let short = length-take-le level state.trail.levels h in
     let under : lower < level = omega (arith, below) in
     let same = same_cut state.trail level lower ok h under in
     subst (λ bounds. All (IsSettled bounds) (state.store ++ lits ∷ [])) (sym same)
-    (All-push (IsSettled (box_at state.trail lower)) state.store lits (quiet lower (omega arith)) (asserting_settled state lits level lower is under))
+    (All-push (IsSettled (box_at state.trail lower)) state.store lits (quiet lower (omega arith)) (settled lower under))
+
+pub quiet_learnt : (state : Search) (lits : List Lit) (level : ℕ) → IsTrail state.trail → WasQuiet state → level ≤ present_level state → IsAsserting state lits level → WasQuiet (record { store = state.store ++ lits ∷ []; trail = cut_to state.trail level })
+quiet_learnt state lits level ok quiet h is = quiet_cut state lits level ok quiet h (λ lower under. asserting_settled state lits level lower is under)

@@ -46,7 +46,7 @@ done_more state added count key watcher h done =
 
 pub are_done_propagated : (old new : Search) (before after : Tally) (count : ℕ) (key : Lit) (watchers : List Watcher) (at : ℕ) → count ≤ length old.trail.lits → Propagated old new before after → AreDone old count key watchers at → AreDone new count key watchers at
 are_done_propagated old new before after count key watchers at h p done =
-    subst (λ s. AreDone s count key watchers at) (sym p.lits) (λ k below d. done_more old p.added count key (get_or watchers k d) h (done k below d))
+    subst (λ s. AreDone s count key watchers at) (sym p.grown.lits) (λ k below d. done_more old p.grown.added count key (get_or watchers k d) h (done k below d))
 
 pub are_done_next : (state : Search) (count : ℕ) (key : Lit) (watchers : List Watcher) (at : ℕ) → AreDone state count key watchers at → HoldsAt (IsDone state count key) watchers at → AreDone state count key watchers (at + 1)
 are_done_next state count key watchers at done here k below =
@@ -276,10 +276,10 @@ hold_at P xs at it h is p d = subst P (is ∙ get_or_default xs at it d h) p
 -- a clause that was settled while all its literals but one were false
 pub settled_done : (old new : Search) (before after : Tally) (count : ℕ) (key : Lit) (watcher : Watcher) (clause : List Lit) (other : ℕ) → Propagated old new before after → slice_get old.store watcher.number ≡ Some clause → AreFalseBut (box old.trail) clause other (length clause) → IsSettledAt new watcher.number → IsDone new count key watcher
 settled_done old new before after count key watcher clause other p among all settled =
-    subst (λ s. IsSettledAt s watcher.number → IsDone s count key watcher) (sym p.lits) (λ here.
-    let state = with_more old p.added in
+    subst (λ s. IsSettledAt s watcher.number → IsDone s count key watcher) (sym p.grown.lits) (λ here.
+    let state = with_more old p.grown.added in
     let same : here.clause ≡ clause = some_same here.clause clause (sym here.among ∙ among) in
-    done_true state count key watcher clause among (settled_true old p.added clause other all (subst (IsSettled (box state.trail)) same here.settled))) settled
+    done_true state count key watcher clause among (settled_true old p.grown.added clause other all (subst (IsSettled (box state.trail)) same here.settled))) settled
 
 -- a move
 moves_keep : (visit : Visit) (list at target : ℕ) (lost moved : Watcher) (old new : List (List Watcher)) → at < length (list_at old list) → lost ≡ get_or (list_at old list) at lost → Moves visit list at target moved old new → KeepsBut lost old new × Contains (list_at new target) moved
@@ -340,10 +340,10 @@ goes_both a b c x y z s t u one two = record {
 pub visiting_more : (old new : Search) (was now : Watches) (before after : Tally) (key : Lit) (list at next : ℕ) → Goes old new was now before after → IsVisiting old was key list at → AreDone new (now.head + 1) key (list_at now.lists list) next → IsVisiting new now key list next
 visiting_more old new was now before after key list at next goes v done =
     let p = goes.propagated in
-    let count : length new.trail.lits ≡ length old.trail.lits + length p.added = ap (λ (s : Search). length s.trail.lits) p.lits ∙ length-append old.trail.lits p.added in
+    let count : length new.trail.lits ≡ length old.trail.lits + length p.grown.added = ap (λ (s : Search). length s.trail.lits) p.grown.lits ∙ length-append old.trail.lits p.grown.added in
     record {
-      term = subst (λ (s : Search). Exists (length s.trail.ranges) s.trail.rows key.term) (sym p.lits) v.term;
-      list_is = subst (λ (s : Search). list ≡ place_of (length s.trail.ranges) key.term key.side) (sym p.lits) v.list_is;
+      term = subst (λ (s : Search). Exists (length s.trail.ranges) s.trail.rows key.term) (sym p.grown.lits) v.term;
+      list_is = subst (λ (s : Search). list ≡ place_of (length s.trail.ranges) key.term key.side) (sym p.grown.lits) v.list_is;
       behind = omega (arith, goes.same_head, v.behind);
       done = done;
     }
@@ -351,9 +351,9 @@ visiting_more old new was now before after key list at next goes v done =
 pub worked_right : (old state : Search) (was it : Watches) (before after : Tally) (key : Lit) (list at : ℕ) → Goes old state was it before after → AreClauses old → was.head < length old.trail.lits → key ≡ negation (get_or old.trail.lits was.head blank_lit) → IsVisiting state it key list at → length (list_at it.lists list) ≤ at → AreWatched state it.lists it.pairs.items (it.head + 1) it.base
 worked_right old state was it before after key list at goes clauses behind key_is v all =
     let p = goes.propagated in
-    let clauses_now : AreClauses state = subst AreClauses (sym p.lits) (record { each = clauses.each; few = clauses.few }) in
+    let clauses_now : AreClauses state = subst AreClauses (sym p.grown.lits) (record { each = clauses.each; few = clauses.few }) in
     let put : get_or state.trail.lits it.head blank_lit ≡ get_or old.trail.lits was.head blank_lit =
-    ap (λ (s : Search). get_or s.trail.lits it.head blank_lit) p.lits ∙ ap (λ n. get_or (old.trail.lits ++ p.added) n blank_lit) goes.same_head ∙ get_or_append_left old.trail.lits p.added blank_lit was.head behind in
+    ap (λ (s : Search). get_or s.trail.lits it.head blank_lit) p.grown.lits ∙ ap (λ n. get_or (old.trail.lits ++ p.grown.added) n blank_lit) goes.same_head ∙ get_or_append_left old.trail.lits p.grown.added blank_lit was.head behind in
     let same : key ≡ negation (get_or state.trail.lits it.head blank_lit) = key_is ∙ ap negation (sym put) in
     watched_worked state it.lists it.pairs.items it.head it.base list at clauses_now v.behind
     (subst (λ (k : Lit). list ≡ place_of (length state.trail.ranges) k.term k.side) same v.list_is)

@@ -114,7 +114,7 @@ watched_more state added lists pairs head base ok w = record {
 
 pub watched_propagated : (old new : Search) (before after : Tally) (lists : List (List Watcher)) (pairs : List Pair) (head base : ℕ) → IsTrail old.trail → Propagated old new before after → AreWatched old lists pairs head base → AreWatched new lists pairs head base
 watched_propagated old new before after lists pairs head base ok p w =
-    subst (λ s. AreWatched s lists pairs head base) (sym p.lits) (watched_more old p.added lists pairs head base ok w)
+    subst (λ s. AreWatched s lists pairs head base) (sym p.grown.lits) (watched_more old p.grown.added lists pairs head base ok w)
 
 -- the end of a decision's level before
 end_before : (trail : Trail) (lit : Lit) (level : ℕ) → length trail.levels ≡ level → box_at (record trail { lits = trail.lits ++ lit ∷ []; levels = trail.levels ++ length trail.lits ∷ [] }) level ≡ box trail

@@ -44,9 +44,13 @@ pub record CountsPropagations (count : ℕ) (old new : Tally) : Type 0 where
   pub checks : new.checks ≡ old.checks
   pub budget : new.budget ≡ old.budget
 
--- new is old with more literals on the trail, each implied where it was put, and for each a propagation was counted
-pub record Propagated (old new : Search) (before after : Tally) : Type 0 where
+-- new is old with more literals on the trail, each implied where it was put
+pub record HasGrown (old new : Search) : Type 0 where
   pub added : List Lit
   pub lits : new ≡ record old { trail = record old.trail { lits = old.trail.lits ++ added } }
   pub implied : (at : ℕ) → length old.trail.lits ≤ at → at < length new.trail.lits → IsImpliedAt new at
-  pub counted : CountsPropagations (length added) before after
+
+-- and for each a propagation was counted
+pub record Propagated (old new : Search) (before after : Tally) : Type 0 where
+  pub grown : HasGrown old new
+  pub counted : CountsPropagations (length grown.added) before after

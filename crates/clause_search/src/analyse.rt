@@ -12,11 +12,8 @@ use std::alloc::Global;
 use wx_base::NoMemory;
 
 impl ClauseTrail {
-    /// Learns from a false clause, and counts a conflict; or answers `Spent` and counts nothing, exactly where the tally is at its budget.
-    /// At the end of each level below the present one every clause had a true literal or two that weren't false.
-    ///
-    /// Above level 0 it learns a clause, by going back to the first literal that alone leads to the conflict on its level
-    /// (J. P. Marques-Silva and K. A. Sakallah, GRASP: a search algorithm for propositional satisfiability, 1999).
+    /// Learns from a false clause, and counts a conflict; or answers `Spent` and counts nothing,
+    /// exactly where the tally is at its budget.
     pub fn analyse(
         &self,
         alloc: Global,
@@ -75,8 +72,9 @@ impl ClauseTrail {
         Ok(Learnt::Top { hints })
     }
 
-    // The clause that hints end with at level 0, and the place before which they stop. A clause of one literal that isn't true on the trail
-    // may make a literal of the trail false, and the reason of the first such literal is wholly false: hints end with it.
+    // The clause that hints end with at level 0, and the place before which they stop. A clause of
+    // one literal that isn't true on the trail may make a literal of the trail false, and the
+    // reason of the first such literal is wholly false: hints end with it.
     fn aim(&self, conflict: u32) -> (u32, u32)
         requires conflict { IsConflict self.now conflict }
         requires level { self.now.trail.levels ≡ [] }

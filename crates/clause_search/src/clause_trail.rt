@@ -14,12 +14,14 @@ use wx_base::NoMemory;
 
 /// A store of clauses, and a trail of literals over it, in levels.
 ///
-/// Contracts see the clauses by their numbers, and the trail with the ranges of the system's variables.
+/// Contracts see the clauses by their numbers, and the trail with the ranges of the system's
+/// variables.
 #[derive(Debug, Drop)]
 pub(crate) struct ClauseTrail {
     clauses: ClauseStore,
     trail: BoundTrail,
-    // Beside each literal of the trail the number of the clause that implied it, and nothing where it was decided.
+    // Beside each literal of the trail the number of the clause that implied it, and nothing where
+    // it was decided.
     reasons: Vec<Option<u32>>,
 }
 
@@ -63,7 +65,8 @@ impl ClauseTrail {
     /// Adds a clause to the store, and gives its number.
     /// The terms exist, no literal stands twice, and no bound is the least or the greatest `i128`.
     ///
-    /// Where memory is wanting, and where the store would reach 2^31 clauses, the search stands as before.
+    /// Where memory is wanting, and where the store would reach 2^31 clauses, the search stands as
+    /// before.
     pub(crate) fn add_clause(&mut self, lits: &[Lit]) -> Result<u32, NoMemory>
         requires { IsClause (length self.old.trail.ranges) self.old.trail.rows lits.now }
         ensures number { IfOk result (λ number. number ≡ length self.old.store) }
@@ -133,24 +136,24 @@ impl ClauseTrail {
         self.trail.is_false(lit)
     }
 
-    /// Opens a level that begins with a literal, which is neither true nor false, and counts a decision;
-    /// or answers `false` and changes nothing, exactly where the tally is at its budget.
+    /// Opens a level that begins with a literal, which is neither true nor false, and counts a
+    /// decision; or answers `false` and changes nothing, exactly where the tally is at its budget.
+    /// Where memory is wanting the search stands as before.
     pub(crate) fn decide(&mut self, lit: &Lit, tally: &mut Tally) -> Result<bool, NoMemory>
         requires term { Exists (length self.old.trail.ranges) self.old.trail.rows lit.now.term }
         requires inner { IsInner lit.now.bound }
         requires open { IsOpen (box self.old.trail) lit.now }
         ensures decides { IfOk result (λ decided. Decides decided lit.now self.old self.new
             tally.old tally.new) }
-        ensures ranges { self.new.trail.ranges ≡ self.old.trail.ranges }
-        ensures rows { self.new.trail.rows ≡ self.old.trail.rows }
+        ensures err { OnErr result (self.new ≡ self.old) }
     {
         if !tally.tick(Work::Decision) {
             return Ok(false);
         }
-        self.trail.open_level()?;
+        let count = self.reasons.len();
         self.reasons.push(None)?;
-        if self.trail.push(lit).is_err() {
-            self.reasons.truncate(self.trail.lits().len());
+        if self.trail.open_level(lit).is_err() {
+            self.reasons.truncate(count);
             return Err(NoMemory);
         }
         Ok(true)

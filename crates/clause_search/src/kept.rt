@@ -1,8 +1,9 @@
 ghost use Rattle.std.specs.Prelude.{◌≡◌, ◌^◌, ◌<◌, ◌≤◌, List, length, IfOk};
 ghost use Rattle.mix_system.specs.declared.literal.Lit.{Lit as Literal};
-ghost use Rattle.mix_system.specs.System.{IsInner};
+ghost use Rattle.mix_system.specs.System.{IsInner, Exists};
+ghost use Rattle.mix_system.specs.Bounds.{IsFalseIn};
 ghost use Rattle.mix_system.specs.Follows.{Follows};
-ghost use Rattle.bound_trail.specs.Trail.{IsTrail};
+ghost use Rattle.bound_trail.specs.Trail.{box, BecameFalse, IsTrail};
 ghost use Rattle.clause_search.specs.Search.{known, single_bounds};
 ghost use Rattle.clause_search.specs.Marks.{lit_at, AreMarks};
 ghost use Rattle.clause_search.specs.Runs.{IsAim, IsReady, AreKept, IsBackLevel, IsLevelOf};
@@ -57,6 +58,19 @@ impl ClauseTrail {
         0
     }
 
+    /// The level at which a false literal became false.
+    pub(crate) fn false_since(&self, lit: &Lit) -> u32
+        requires term { Exists (length self.now.trail.ranges) self.now.trail.rows lit.now.term }
+        requires is_false { IsFalseIn (box self.now.trail) lit.now }
+        requires few { length self.now.trail.levels < 2 ^ 32 }
+        ensures { BecameFalse self.now.trail lit.now result }
+    {
+        match self.bounds().cause(lit) {
+            None => 0,
+            Some(place) => self.level_of(place),
+        }
+    }
+
     // The level of a literal of the trail.
     fn level_of(&self, at: u32) -> u32
         requires within { at < length self.now.trail.lits }
@@ -72,7 +86,8 @@ impl ClauseTrail {
         levels.len() as u32
     }
 
-    /// The reasons of the literals before a place that were given up, in the order of the trail, and at the end one more clause.
+    /// The reasons of the literals before a place that were given up, in the order of the trail,
+    /// and at the end one more clause.
     pub(crate) fn hints(
         &self,
         alloc: Global,

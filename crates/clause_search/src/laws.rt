@@ -1,4 +1,5 @@
-//! Laws of the definitions that contracts cite. Each is the contract of a function that does nothing.
+//! Laws of the definitions that contracts cite. Each is the contract of a function that does
+//! nothing.
 
 ghost use Rattle.std.specs.Prelude.{◌≡◌, ◌≤◌, ℕ, List, [], ◌∷◌, ◌++◌, take, All};
 ghost use Rattle.mix_system.specs.declared.literal.Lit.{Lit};
@@ -9,8 +10,8 @@ ghost use Rattle.clause_search.specs.Search.{Search, WasQuiet, Propagated, prese
 ghost use Rattle.clause_search.specs.Decided.{OpensLevel};
 ghost use Rattle.clause_search.specs.Learnt.{IsAsserting};
 
-/// What an analysis asks of the lower levels stays so: over a propagation, over a decision where every clause asks for nothing,
-/// and over going back with what was learnt, which is then added.
+/// What an analysis asks of the lower levels stays so: over a propagation, over a decision where
+/// every clause asks for nothing, and over going back with what was learnt, which is then added.
 pub fn lower_levels_stay_quiet()
     ensures propagated { (old new : Search) (before after : Tally)
         → IsTrail old.trail → WasQuiet old → Propagated old new before after → WasQuiet new }

@@ -3,7 +3,8 @@ use mix_system::{Hints, Lits};
 /// What was learnt from a conflict.
 #[derive(Debug, Drop)]
 pub enum Learnt {
-    /// A clause that follows by its hints, and the level to go back to, on which all its literals but one are false.
+    /// A clause that follows by its hints, and the level to go back to, on which all its literals
+    /// but one are false.
     Clause {
         lits: Lits,
         hints: Hints,

@@ -1,4 +1,5 @@
-//! The search over clauses: a store of clauses and a trail, propagation, decisions, going back, and what conflicts teach.
+//! The search over clauses: a store of clauses and a trail, propagation, decisions, going back, and
+//! what conflicts teach.
 //!
 //! Literals are bounds on terms, so a literal may be true or false by another one's bound.
 #![tactic(auto)]

@@ -32,8 +32,9 @@ impl ClauseTrail {
         Ok(marks)
     }
 
-    /// Goes back from the trail's end to the first literal that alone leads to the conflict on the level that begins at `start`:
-    /// each literal behind it that was seen is given up for what made the other literals of its reason false.
+    /// Goes back from the trail's end to the first literal that alone leads to the conflict on the
+    /// level that begins at `start`: each literal behind it that was seen is given up for what made
+    /// the other literals of its reason false.
     pub(crate) fn find_point(&self, start: u32, lowest: u32, marks: &mut Vec<Mark>) -> u32
         requires marks { AreMarks self.now marks.old.items }
         requires levels { All (λ place. place ≤ start) self.now.trail.levels }
@@ -71,7 +72,7 @@ impl ClauseTrail {
         }
     }
 
-    // Gives up a literal that a clause implied for those that made the clause's other literals false.
+    // Gives up a literal that a clause implied for those that made its other literals false.
     fn resolve(&self, at: u32, start: u32, lowest: u32, marks: &mut Vec<Mark>) -> u32
         requires marks { AreMarks self.now marks.old.items }
         requires within { at < length marks.old.items }
@@ -89,7 +90,8 @@ impl ClauseTrail {
         self.mark_causes(self.clause(number), start, lowest, marks)
     }
 
-    /// Marks what makes the false literals of a clause false. Gives the lowest place from `start` on that is seen, where `lowest` was it before.
+    /// Marks what makes the false literals of a clause false. Gives the lowest place from `start`
+    /// on that is seen, where `lowest` was it before.
     pub(crate) fn mark_causes(
         &self,
         clause: &[Lit],

@@ -77,8 +77,8 @@ impl Latest {
 impl ClauseTrail {
     /// The two literals of a clause that became false last, or that aren't false.
     pub(crate) fn latest_two(&self, clause: &[Lit]) -> Pair
-        requires { All (λ lit. Exists (length self.now.trail.ranges) self.now.trail.rows lit.term)
-            clause.now }
+        requires { All (λ lit. Exists
+            (length self.now.trail.ranges) self.now.trail.rows lit.term) clause.now }
         ensures within { result.first ≢ result.second
             → (result.first < length clause.now) × (result.second < length clause.now) }
         ensures stands { IsSettled (box self.now.trail) clause.now
@@ -99,7 +99,7 @@ impl ClauseTrail {
         }
     }
 
-    // How late a literal became false: 0 by the ranges, and the greatest number where it isn't false.
+    // How late a literal became false: 0 by the ranges, and the greatest number where it isn't.
     fn falls(&self, lit: &Lit) -> u64
         requires { Exists (length self.now.trail.ranges) self.now.trail.rows lit.now.term }
         ensures bounded { result ≤ 2 ^ 32 }
@@ -114,7 +114,7 @@ impl ClauseTrail {
         }
     }
 
-    /// Whether two literals of a clause weren't false at the end of any level below the present one.
+    /// Whether two literals of a clause weren't false at the end of any level below the present.
     pub(crate) fn were_left(&self, clause: &[Lit], pair: Pair) -> bool
         requires known { All (λ lit. Exists
             (length self.now.trail.ranges) self.now.trail.rows lit.term) clause.now }

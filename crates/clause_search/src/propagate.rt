@@ -9,7 +9,8 @@ use mix_system::{Tally, Work};
 use wx_base::NoMemory;
 
 impl ClauseTrail {
-    /// Looks at a clause, and puts what it implies. Where memory is wanting the trail stands as before.
+    /// Looks at a clause, and puts what it implies. Where memory is wanting the trail stands as
+    /// before.
     pub(crate) fn settle(&mut self, at: u32, tally: &mut Tally) -> Result<Option<Spread>, NoMemory>
         requires { at < length self.old.store }
         ensures propagated { IfOk result (λ _. Propagated self.old self.new tally.old tally.new) }

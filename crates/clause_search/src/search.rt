@@ -1,8 +1,8 @@
-ghost use Rattle.std.specs.Prelude.{◌≡◌, ◌<◌, ◌≤◌, ◌↔◌, [], ◌∷◌, ◌++◌, length, take, slice_get, Some, IsTrue, IfOk, OnOk, OnErr};
+ghost use Rattle.std.specs.Prelude.{◌≡◌, ◌^◌, ◌<◌, ◌≤◌, ◌↔◌, [], ◌∷◌, ◌++◌, length, take, slice_get, Some, IsTrue, IfOk, OnOk, OnErr};
 ghost use Rattle.mix_system.specs.System.{IsInner, IsClause, Exists};
 ghost use Rattle.mix_system.specs.Bounds.{IsIn, IsFalseIn};
-ghost use Rattle.bound_trail.specs.Trail.{box, level_end, IsOpen, IsTrail};
-ghost use Rattle.clause_search.specs.Search.{WasQuiet, Propagated};
+ghost use Rattle.bound_trail.specs.Trail.{box, level_end, IsOpen, BecameFalse, IsTrail};
+ghost use Rattle.clause_search.specs.Search.{WasQuiet, HasGrown, Propagated};
 ghost use Rattle.clause_search.specs.Answers.{IsConflict, Says};
 ghost use Rattle.clause_search.specs.Decided.{Decides};
 ghost use Rattle.clause_search.specs.Learnt.{Teaches};
@@ -18,7 +18,8 @@ use wx_base::NoMemory;
 
 /// A store of clauses, and a trail of literals over it, in levels.
 ///
-/// Contracts see the clauses by their numbers, and the trail with the ranges of the system's variables.
+/// Contracts see the clauses by their numbers, and the trail with the ranges of the system's
+/// variables.
 #[derive(Debug, Drop)]
 pub struct Search {
     known: ClauseTrail,
@@ -59,7 +60,8 @@ impl Search {
     /// Adds a clause to the store, and gives its number.
     /// The terms exist, no literal stands twice, and no bound is the least or the greatest `i128`.
     ///
-    /// Where memory is wanting, and where the store would reach 2^31 clauses, the search stands as before.
+    /// Where memory is wanting, and where the store would reach 2^31 clauses, the search stands as
+    /// before.
     pub fn add_clause(&mut self, lits: &[Lit]) -> Result<u32, NoMemory>
         requires { IsClause (length self.old.trail.ranges) self.old.trail.rows lits.now }
         ensures number { IfOk result (λ number. number ≡ length self.old.store) }
@@ -124,32 +126,49 @@ impl Search {
         self.known.is_false(lit)
     }
 
-    /// Opens a level that begins with a literal, which is neither true nor false, and counts a decision;
-    /// or answers `false` and changes nothing, exactly where the tally is at its budget.
+    /// The level at which a false literal became false. It takes no memory.
+    pub fn false_since(&self, lit: &Lit) -> u32
+        requires term { Exists (length self.now.trail.ranges) self.now.trail.rows lit.now.term }
+        requires is_false { IsFalseIn (box self.now.trail) lit.now }
+        requires few { length self.now.trail.levels < 2 ^ 32 }
+        ensures { BecameFalse self.now.trail lit.now result }
+    {
+        self.known.false_since(lit)
+    }
+
+    /// Opens a level that begins with a literal, which is neither true nor false, and counts a
+    /// decision; or answers `false` and changes nothing, exactly where the tally is at its budget.
+    /// Where memory is wanting the search stands as before.
     pub fn decide(&mut self, lit: &Lit, tally: &mut Tally) -> Result<bool, NoMemory>
         requires term { Exists (length self.old.trail.ranges) self.old.trail.rows lit.now.term }
         requires inner { IsInner lit.now.bound }
         requires open { IsOpen (box self.old.trail) lit.now }
-        ensures { IfOk result (λ decided. Decides decided lit.now self.old self.new tally.old
-            tally.new) }
+        ensures decides { IfOk result (λ decided. Decides decided lit.now self.old self.new
+            tally.old tally.new) }
+        ensures err { OnErr result (self.new ≡ self.old) }
     {
         self.watches.decide(&mut self.known, lit, tally)
     }
 
-    /// Puts literals that clauses imply, one unit for each, until every clause has a true literal or two that aren't false,
-    /// a clause is false, or the budget is spent where some clause still implies a literal.
+    /// Puts literals that clauses imply, one unit for each, until every clause has a true literal
+    /// or two that aren't false, a clause is false, or the budget is spent where some clause still
+    /// implies a literal. Where memory is wanting, some literals that clauses imply may have been
+    /// put.
     pub fn propagate(&mut self, tally: &mut Tally) -> Result<Spread, NoMemory>
         ensures propagated { IfOk result (λ _. Propagated self.old self.new tally.old tally.new) }
         ensures says { IfOk result (λ spread. Says spread self.new tally.new) }
+        ensures err { OnErr result (HasGrown self.old self.new) }
     {
         self.watches.propagate(&mut self.known, tally)
     }
 
-    /// Learns from a false clause, and counts a conflict; or answers `Spent` and counts nothing, exactly where the tally is at its budget.
-    /// At the end of each level below the present one every clause had a true literal or two that weren't false.
+    /// Learns from a false clause, and counts a conflict; or answers `Spent` and counts nothing,
+    /// exactly where the tally is at its budget. At the end of each level below the present one
+    /// every clause had a true literal or two that weren't false.
     ///
-    /// Above level 0 it learns a clause, by going back to the first literal that alone leads to the conflict on its level
-    /// (J. P. Marques-Silva and K. A. Sakallah, GRASP: a search algorithm for propositional satisfiability, 1999).
+    /// Above level 0 it learns a clause, by going back to the first literal that alone leads to the
+    /// conflict on its level (J. P. Marques-Silva and K. A. Sakallah, GRASP: a search algorithm for
+    /// propositional satisfiability, 1999).
     pub fn analyse(
         &self,
         alloc: Global,

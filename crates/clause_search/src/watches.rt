@@ -1,7 +1,7 @@
 ghost use Rattle.std.specs.Prelude.{◌≡◌, ◌≢◌, ◌+◌, ◌*◌, ◌<◌, ◌≤◌, length, take, slice_get, slice_index_or, slice_set, Some, All, IfOk, OnOk, OnErr, MatchOption};
 ghost use Rattle.mix_system.specs.System.{IsInner, Exists};
 ghost use Rattle.bound_trail.specs.Trail.{box, level_end, IsOpen};
-ghost use Rattle.clause_search.specs.Search.{Propagated};
+ghost use Rattle.clause_search.specs.Search.{HasGrown, Propagated};
 ghost use Rattle.clause_search.specs.Settled.{IsLeftAt};
 ghost use Rattle.clause_search.specs.Answers.{Says};
 ghost use Rattle.clause_search.specs.Decided.{Decides};
@@ -19,8 +19,9 @@ use mix_system::{Lit, Tally};
 use std::alloc::Global;
 use wx_base::NoMemory;
 
-/// What is watched of the clauses of a search: two literals of each, in whose lists the clause is found where one of them becomes false
-/// (M. W. Moskewicz, C. F. Madigan, Y. Zhao, L. Zhang and S. Malik, Chaff: engineering an efficient SAT solver, 2001).
+/// What is watched of the clauses of a search: two literals of each, in whose lists the clause is
+/// found where one of them becomes false (M. W. Moskewicz, C. F. Madigan, Y. Zhao, L. Zhang and
+/// S. Malik, Chaff: engineering an efficient SAT solver, 2001).
 #[derive(Debug, Drop)]
 pub struct Watches {
     // The watched literals, by term and side.
@@ -70,6 +71,7 @@ impl Watches {
         ensures right { IsRight known.new self.new }
         ensures propagated { IfOk result (λ _. Propagated known.old known.new tally.old tally.new) }
         ensures says { IfOk result (λ spread. Says spread known.new tally.new) }
+        ensures err { OnErr result (HasGrown known.old known.new) }
     {
         if let Some(spread) = self.look_at_new(known, tally)? {
             return Ok(spread);
@@ -82,7 +84,8 @@ impl Watches {
         Ok(Spread::Quiet)
     }
 
-    /// Decides a literal. Where the trail wasn't worked to its end, something may have been missed at the end of the level before.
+    /// Decides a literal. Where the trail wasn't worked to its end, something may have been missed
+    /// at the end of the level before.
     pub fn decide(
         &mut self,
         known: &mut ClauseTrail,
@@ -96,12 +99,10 @@ impl Watches {
         ensures right { IsRight known.new self.new }
         ensures decides { IfOk result (λ decided. Decides decided lit.now known.old known.new
             tally.old tally.new) }
+        ensures err { OnErr result (known.new ≡ known.old) }
     {
         let end = known.trail().len();
-        let Ok(decided) = known.decide(lit, tally) else {
-            self.forget(known);
-            return Err(NoMemory);
-        };
+        let decided = known.decide(lit, tally)?;
         if !decided {
             return Ok(false);
         }
@@ -155,6 +156,7 @@ impl Watches {
         ensures right { IsRight known.new self.new }
         ensures propagated { IfOk result (λ _. Propagated known.old known.new tally.old tally.new) }
         ensures looks { IfOk result (λ stop. Looks stop known.new self.new tally.new) }
+        ensures err { OnErr result (HasGrown known.old known.new) }
     {
         while self.pairs.len() < known.clauses() as usize {
             let number = self.pairs.len() as u32;
@@ -184,7 +186,8 @@ impl Watches {
         Ok(())
     }
 
-    // Works the first literal of the trail that wasn't: visits the watchers on its term's other side.
+    // Works the first literal of the trail that wasn't: visits the watchers on its term's other
+    // side.
     fn work(
         &mut self,
         known: &mut ClauseTrail,
@@ -197,6 +200,7 @@ impl Watches {
         ensures count { IfOk result (λ _. length self.new.pairs.items ≡ length
             self.old.pairs.items) }
         ensures works { IfOk result (λ stop. Works stop known.new self.old self.new tally.new) }
+        ensures err { OnErr result (HasGrown known.old known.new) }
     {
         let key = known.trail()[self.head].negation();
         let list = known.bounds().place(key.term, key.side);
@@ -229,6 +233,7 @@ impl Watches {
             tally.new) }
         ensures visits { IfOk result (λ visit. Visits visit list at key.now known.new self.old
             self.new tally.new) }
+        ensures err { OnErr result (known.new ≡ known.old) }
     {
         let watcher = self.lists.get(list, at);
         let lit = watcher.literal(key);
@@ -262,6 +267,7 @@ impl Watches {
             tally.new) }
         ensures visits { IfOk result (λ visit. Visits visit list at key.now known.new self.old
             self.new tally.new) }
+        ensures err { OnErr result (known.new ≡ known.old) }
     {
         let watcher = self.lists.get(list, at);
         let clause = known.clause(watcher.number);

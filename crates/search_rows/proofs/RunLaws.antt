@@ -60,8 +60,8 @@ pub known_propagated : (old new : Run) (before after : Tally) → IsTrail old.se
     → IsKnown old → Propagated old.search new.search before after → new.vars ≡ old.vars
     → new.rows ≡ old.rows → Knows new.standing new.search → IsKnown new
 known_propagated old new before after ok known propagated vars rows knows = record {
-  vars = ap (λ (s : Search). length s.trail.ranges) propagated.lits ∙ known.vars ∙ sym vars;
-  rows = ap (λ (s : Search). s.trail.rows) propagated.lits ∙ known.rows ∙ sym rows;
+  vars = ap (λ (s : Search). length s.trail.ranges) propagated.grown.lits ∙ known.vars ∙ sym vars;
+  rows = ap (λ (s : Search). s.trail.rows) propagated.grown.lits ∙ known.rows ∙ sym rows;
   was_quiet = quiet_propagated old.search new.search before after ok known.was_quiet propagated;
   knows = knows;
 }

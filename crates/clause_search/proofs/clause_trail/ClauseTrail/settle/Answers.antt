@@ -6,7 +6,8 @@ use Rattle.mix_system.specs.Follows.{LeavesNone}
 use Rattle.bound_trail.specs.Trail.{Trail, box}
 use Rattle.clause_search.specs.Settled.{IsUnit}
 use Rattle.clause_search.specs.Looks.{IsImplied}
-use Rattle.clause_search.proofs.PropagationLaws.{all_left, implied_open, any_at_number, propagated_one, settled_implied}
+use Rattle.clause_search.specs.Search.{Propagated}
+use Rattle.clause_search.proofs.PropagationLaws.{all_left, implied_open, any_at_number, propagated_none, propagated_one, settled_implied}
 use Rattle.clause_search.proofs.clause_trail.ClauseTrail.settle.Goals as goal
 
 pub returns-then-not-tick-clause-settles : goal.returns-then-not-tick-clause-settles
@@ -55,3 +56,14 @@ returns-in_ok-imply-in-Implies-clause-settles c =
     let clause = c.clause.result.now in
     let implied : IsImplied (box state.trail) clause c.in-Implies.lit = subst (λ (t : Trail). IsImplied (box t) clause c.in-Implies.lit) c.bounds.ensures.trail c.in-Implies.ensures in
     rw c.in_ok-imply-in-Implies.ensures.ok (settled_implied state c.in-Implies.lit c.args.at clause c.clause.ensures.lits implied.one)
+
+pub returns-then-not-tick-clause-propagated : goal.returns-then-not-tick-clause-propagated
+returns-then-not-tick-clause-propagated c =
+    let state = c.args.self.now in
+    subst (Propagated state state c.args.tally.now) (sym c.if-not-tick.ensures.unchanged) (propagated_none state c.args.tally.now)
+
+pub returns-in-Settled-clause-propagated : goal.returns-in-Settled-clause-propagated
+returns-in-Settled-clause-propagated c = propagated_none c.args.self.now c.args.tally.now
+
+pub returns-in-Broken-clause-propagated : goal.returns-in-Broken-clause-propagated
+returns-in-Broken-clause-propagated c = propagated_none c.args.self.now c.args.tally.now

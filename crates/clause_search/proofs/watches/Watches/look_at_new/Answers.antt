@@ -1,6 +1,17 @@
-use Rattle.clause_search.proofs.PropagationLaws.{propagated_trans}
+use Rattle.clause_search.proofs.PropagationLaws.{on_err, propagated_none, grown_trans, propagated_trans}
 use Rattle.clause_search.proofs.WatchLaws.{watched_propagated}
 use Rattle.clause_search.proofs.watches.Watches.look_at_new.Goals as goal
+
+pub loop-self-init : goal.loop-self-init
+loop-self-init c = record {
+  right = c.requires;
+  propagated = propagated_none c.args.known.now c.args.tally.now;
+}
+
+pub returns-in_err-watch-clause-err : goal.returns-in_err-watch-clause-err
+returns-in_err-watch-clause-err c =
+    on_err c.from_residual-in_err-watch.result _
+    (grown_trans c.args.known.now c.loop-self.known c.settle.new.self c.loop-self.invariant.propagated.grown c.in_ok-spread.ensures.propagated.grown)
 
 pub returns-in-Some-clause-right : goal.returns-in-Some-clause-right
 returns-in-Some-clause-right c =

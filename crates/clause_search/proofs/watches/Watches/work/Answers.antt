@@ -1,11 +1,22 @@
-use Rattle.std.proofs.Common.{◌≡◌, ◌+◌, get_or, ap, ◌∙◌, subst, arith}
+use Rattle.std.proofs.Common.{◌≡◌, ◌+◌, get_or, refl, ap, ◌∙◌, subst, rules, arith}
 use Rattle.mix_system.specs.Lit.{negation}
 use Rattle.bound_trail.specs.Edges.{blank_lit}
 use Rattle.clause_search.specs.Visited.{Visits}
 use Rattle.clause_search.specs.declared.watches.Visit.TheVariants.{Kept, Gone}
-use Rattle.clause_search.proofs.PropagationLaws.{propagated_trans}
+use Rattle.clause_search.proofs.PropagationLaws.{propagated_none, propagated_trans}
 use Rattle.clause_search.proofs.VisitLaws.{goes_both, visiting_more, worked_right}
 use Rattle.clause_search.proofs.watches.Watches.work.Goals as goal
+
+pub loop-at-init : goal.loop-at-init
+loop-at-init c = record {
+  goes = record {
+    propagated = propagated_none c.args.known.now c.args.tally.now;
+    right = c.requires.right;
+    same_head = refl;
+    same_count = refl;
+  };
+  visiting = search rules;
+}
 
 pub loop-at-preserved-in-Kept : goal.loop-at-preserved-in-Kept
 loop-at-preserved-in-Kept c =
