@@ -1,21 +1,16 @@
 -- The literals of the store and the trail are those of the system's clauses, or were set.
-use Rattle.std.proofs.Common.{◌≡◌, ◌⊎◌, ℕ, zero, suc, ◌+◌, ◌<◌, ◌≤◌, List, [], ◌∷◌, ◌++◌, length, get_or, take, Some, refl, sym, ◌∙◌, ap, subst, inl, inr, ⊎_elim, arith, All}
-use Rattle.std.specs.Prelude.{Any, Contains}
-use Rattle.std.specs.List.{HoldsAt}
+use Rattle.std.proofs.Common.{◌≡◌, ℕ, List, [], ◌∷◌, ◌++◌, length, get_or, take, sym, ◌∙◌, ap, subst, inl, inr, ⊎_elim, All}
 use Rattle.std.proofs.lemmas.Bool.{cases_lt}
 use Rattle.std.proofs.lemmas.List.{get_or_append_left}
-use Rattle.std.proofs.lemmas.List.Elements.{All-nil, All-cons, All-head, All-tail, All-push, All-append, All-take, All-weaker, Contains-append_left, Contains-push}
-use Rattle.mix_system.specs.declared.literal.Term.{Term}
-use Rattle.mix_system.specs.declared.literal.Side.{Side}
-use Rattle.mix_system.specs.declared.literal.Side.TheVariants.{Le, Ge}
+use Rattle.std.proofs.lemmas.List.Elements.{All-nil, All-cons, All-head, All-tail, All-push, All-take, All-weaker, Contains-append_left, Contains-push}
 use Rattle.mix_system.specs.declared.literal.Lit.{Lit}
 use Rattle.mix_system.specs.declared.tally.Tally.{Tally}
 use Rattle.mix_system.specs.Calm.{IsSmall}
 use Rattle.mix_system.specs.Follows.{LeavesOne}
 use Rattle.mix_system.specs.System.{System}
 use Rattle.bound_trail.specs.Trail.{Trail, box_with, level_end}
-use Rattle.clause_search.specs.Search.{Search, Propagated}
-use Rattle.clause_search.specs.Decided.{OpensLevel, StaysSpent, Decides}
+use Rattle.clause_search.specs.Search.{Search, HasGrown}
+use Rattle.clause_search.specs.Decided.{OpensLevel}
 use Rattle.level_steps.specs.Plain.{IsNamed}
 use Rattle.level_search.specs.Kept.{IsAllowed, IsOverLevel}
 
@@ -51,8 +46,8 @@ pub set_is_allowed : (system : System) (store : List (List Lit)) (lit : Lit) →
 set_is_allowed system store lit small =
     All-cons (IsAllowed system (store ++ (lit ∷ []) ∷ [])) lit [] (inr (small, Contains-push store (lit ∷ []))) (All-nil (IsAllowed system (store ++ (lit ∷ []) ∷ [])))
 
-pub over_propagated : (system : System) (old new : Search) (before after : Tally) → Propagated old new before after → IsOverLevel system old → IsOverLevel system new
-over_propagated system old new before after p over =
+pub over_grown : (system : System) (old new : Search) → HasGrown old new → IsOverLevel system old → IsOverLevel system new
+over_grown system old new p over =
     let same_store : new.store ≡ old.store = ap (λ (s : Search). s.store) p.lits in
     let same_trail : new.trail ≡ record old.trail { lits = old.trail.lits ++ p.added } = ap (λ (s : Search). s.trail) p.lits in
     let lits_are : new.trail.lits ≡ old.trail.lits ++ p.added = ap (λ (t : Trail). t.lits) same_trail in

@@ -1,10 +1,10 @@
 -- What is kept stays so as the search, the clauses, the cuts and the goal change.
-use Rattle.std.proofs.Common.{◌≡◌, ◌⊎◌, ℕ, ◌+◌, ◌<◌, List, [], ◌∷◌, ◌++◌, length, map, get_or, take, Option, Some, None, Result, Ok, Err, IfOk, OnOk, IfSome, ℤ, pos, ◌↔◌, refl, sym, ◌∙◌, ap, subst, inl, inr, ⊎_elim, arith, All, append_assoc, length-append}
-use Rattle.std.specs.Prelude.{Any, slice_get, unsigned_abs}
+use Rattle.std.proofs.Common.{◌≡◌, ◌⊎◌, ℕ, ◌+◌, ◌<◌, List, [], ◌∷◌, ◌++◌, length, map, get_or, Option, Some, None, Result, Ok, Err, IfOk, OnOk, OnErr, IfSome, ℤ, pos, ◌↔◌, refl, sym, ◌∙◌, ap, subst, inl, inr, ⊎_elim, arith, All, append_assoc}
+use Rattle.std.specs.Prelude.{Any, slice_get}
 use Rattle.std.specs.Option.{option_to_list}
 use Rattle.std.proofs.lemmas.Int.{ints}
 use Rattle.std.proofs.lemmas.Option.{slice_get_within, get_or_from_slice_get}
-use Rattle.std.proofs.lemmas.List.{map-append, append-nil, length_push}
+use Rattle.std.proofs.lemmas.List.{map-append, append-nil}
 use Rattle.std.proofs.lemmas.List.Elements.{All-nil, All-cons, All-push, filter_map-append}
 use Rattle.mix_system.specs.declared.literal.Term.TheVariants.{Var}
 use Rattle.mix_system.specs.declared.literal.Lit.{Lit}
@@ -35,6 +35,11 @@ use Rattle.level_search.proofs.AllowedLaws.{over_added, named_are_allowed, set_i
 pub on_ok : {T E : Type 0} (r : Result T E) (P : T → Type 0) (Q : Type 0) → ((x : T) → P x → Q) → IfOk r P → OnOk r Q
 on_ok (Ok x) P Q f p = f x p
 on_ok (Err e) P Q f p = tt
+
+-- what an answer gives, also that of want of memory
+pub in_either : {T E : Type 0} (r : Result T E) (P : T → Type 0) (Q R : Type 0) → ((x : T) → P x → R) → (Q → R) → IfOk r P → OnErr r Q → R
+in_either (Ok x) P Q R f g p q = f x p
+in_either (Err e) P Q R f g p q = g q
 
 pub if_ok : {T E : Type 0} (r : Result T E) (P Q : T → Type 0) → ((x : T) → P x → Q x) → IfOk r P → IfOk r Q
 if_ok (Ok x) P Q f p = f x p

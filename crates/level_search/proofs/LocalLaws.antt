@@ -1,6 +1,6 @@
 -- What local numbers keep of the box and of hints.
-use Rattle.std.proofs.Common.{◌≡◌, ◌⊎◌, ◌↔◌, ℕ, zero, suc, ◌+◌, ◌<◌, List, [], ◌∷◌, ◌++◌, length, map, get_or, take, Option, Some, None, refl, sym, ◌∙◌, ap, subst, inl, inr, ⊎_elim, arith, All, length-append}
-use Rattle.std.specs.Prelude.{Any, slice_get, filter_map}
+use Rattle.std.proofs.Common.{◌≡◌, ◌⊎◌, ℕ, zero, suc, ◌+◌, ◌<◌, List, [], ◌∷◌, ◌++◌, length, get_or, take, Option, Some, None, refl, sym, ◌∙◌, ap, subst, inl, inr, ⊎_elim, arith, All, length-append}
+use Rattle.std.specs.Prelude.{slice_get}
 use Rattle.std.specs.Option.{option_to_list}
 use Rattle.std.specs.List.{cons_option}
 use Rattle.std.proofs.lemmas.Bool.{cases_lt}
@@ -10,10 +10,10 @@ use Rattle.std.proofs.lemmas.List.Elements.{All-nil, All-cons, All-head, filter_
 use Rattle.mix_system.specs.declared.literal.Lit.{Lit}
 use Rattle.mix_system.specs.Lit.{negation}
 use Rattle.mix_system.specs.Bounds.{Entails, IsIn, IsFalseIn, only_literal, unit_bounds}
-use Rattle.mix_system.specs.Follows.{Known, LeavesNone, LeavesOne, Propagates}
-use Rattle.mix_system.proofs.BoundLaws.{Entails_refl, IsIn-none, IsIn-first, IsIn-there, IsIn-here, IsIn-cons_cases, IsIn-append_left, IsIn-append_right, IsIn-append_cases, IsIn-entailed}
+use Rattle.mix_system.specs.Follows.{LeavesNone, LeavesOne, Propagates}
+use Rattle.mix_system.proofs.BoundLaws.{IsIn-none, IsIn-there, IsIn-here, IsIn-cons_cases, IsIn-append_left, IsIn-append_right, IsIn-append_cases, IsIn-entailed}
 use Rattle.mix_system.proofs.FollowLaws.{SayTheSame, Propagates-same}
-use Rattle.bound_trail.proofs.EntailmentLaws.{negation_entails, falsifies_each_other}
+use Rattle.bound_trail.proofs.EntailmentLaws.{falsifies_each_other}
 use Rattle.level_search.specs.Local.{IsNumber, AreNumbered, local_hints}
 
 -- Single literals

@@ -1,6 +1,6 @@
 -- The steps that are logged are valid, and plain.
-use Rattle.std.proofs.Common.{◌≡◌, ◌≢◌, ◌⊎◌, ℕ, zero, suc, ◌+◌, ◌<◌, ◌≤◌, List, [], ◌∷◌, ◌++◌, length, map, get_or, Option, Some, None, IfSome, ℤ, pos, negsuc, ◌+ℤ◌, ◌-ℤ◌, ◌≤ℤ◌, ◌<ℤ◌, refl, sym, ◌∙◌, ap, subst, inl, inr, ⊎_elim, arith, All}
-use Rattle.std.specs.Prelude.{Any, Contains, FitsSigned, slice_get, unsigned_abs, neg_ℤ, ◌^◌, ◌-◌}
+use Rattle.std.proofs.Common.{◌≡◌, ◌⊎◌, ℕ, ◌<◌, List, [], ◌∷◌, ◌++◌, length, map, get_or, Option, Some, None, IfSome, ℤ, pos, negsuc, ◌+ℤ◌, ◌-ℤ◌, ◌≤ℤ◌, ◌<ℤ◌, sym, ◌∙◌, ap, subst, inl, inr, ⊎_elim, arith, All}
+use Rattle.std.specs.Prelude.{Any, Contains, FitsSigned, neg_ℤ, ◌^◌}
 use Rattle.std.specs.Int.{w128}
 use Rattle.std.specs.Option.{option_to_list}
 use Rattle.std.proofs.lemmas.Int.{ints}
@@ -11,26 +11,25 @@ use Rattle.mix_system.specs.declared.literal.Side.{Side}
 use Rattle.mix_system.specs.declared.literal.Side.TheVariants.{Le, Ge}
 use Rattle.mix_system.specs.declared.literal.Lit.{Lit}
 use Rattle.mix_system.specs.Lit.{negation, highest_below, atom}
-use Rattle.mix_system.specs.System.{System, IsInner, IsClause, Exists}
-use Rattle.mix_system.specs.Bounds.{Entails, IsIn, IsFalseIn, range_bounds, unit_bounds}
-use Rattle.mix_system.specs.Follows.{Follows, Propagates}
+use Rattle.mix_system.specs.System.{System, IsInner, IsClause}
+use Rattle.mix_system.specs.Bounds.{IsIn, IsFalseIn, range_bounds, unit_bounds}
+use Rattle.mix_system.specs.Follows.{Follows}
 use Rattle.mix_system.proofs.AnyLaws.{Any-one_holds, Any-weaker, Any-with_all}
-use Rattle.mix_system.proofs.BoundLaws.{negation-twice, IsIn-none, IsIn-first, IsIn-cons_cases, IsIn-append_left, IsIn-append_right, IsIn-append_cases, IsIn-entailed}
+use Rattle.mix_system.proofs.BoundLaws.{IsIn-none, IsIn-cons_cases, IsIn-append_left, IsIn-append_right, IsIn-append_cases, IsIn-entailed}
 use Rattle.mix_system.proofs.FollowLaws.{SayTheSame, Propagates-same}
-use Rattle.bound_trail.specs.Trail.{Trail, box, box_at, level_end, BecameFalse, IsTrail}
+use Rattle.bound_trail.specs.Trail.{box, box_at, level_end, BecameFalse, IsTrail}
 use Rattle.bound_trail.proofs.BoxLaws.{in_box, consistent_box}
 use Rattle.bound_trail.proofs.EntailmentLaws.{negation_entails}
 use Rattle.clause_search.specs.Search.{Search, known as store_known, single_bounds, present_level, WasQuiet}
-use Rattle.clause_search.specs.Settled.{IsSettled, LeavesTwo}
+use Rattle.clause_search.specs.Settled.{IsSettled}
 use Rattle.clause_search.specs.Learnt.{IsLearnt, IsAsserting, BecameFalseBy, HasKnownAtom}
-use Rattle.proof_term.specs.declared.step.Step.{Step}
 use Rattle.proof_term.specs.declared.step.Step.TheVariants.{Lemma}
-use Rattle.proof_term.specs.Steps.{StaysWithin, op_of_negation, negation_step, NamesTerm}
-use Rattle.level_steps.specs.Level.{Level, available, known, box_of}
+use Rattle.proof_term.specs.Steps.{StaysWithin, op_of_negation, negation_step}
+use Rattle.level_steps.specs.Level.{available, box_of}
 use Rattle.level_steps.specs.Steps.{IsStepOn}
-use Rattle.level_steps.specs.Plain.{IsNamed, IsPlain}
+use Rattle.level_steps.specs.Plain.{IsNamed}
 use Rattle.level_search.specs.declared.level.LevelSearch.{LevelSearch}
-use Rattle.level_search.specs.Local.{AreNumbered, local_hints}
+use Rattle.level_search.specs.Local.{local_hints}
 use Rattle.level_search.specs.Kept.{level_of, IsAllowed, IsOverLevel, IsKept, GoalStands}
 use Rattle.level_search.proofs.AllowedLaws.{all_back}
 use Rattle.level_search.proofs.LocalLaws.{single_at, from_single, same_box, same_behind, GoalHolds, propagates_local}
@@ -60,7 +59,7 @@ all_front : {X : Type 0} (P : X → Type 0) (xs ys : List X) → All P (xs ++ ys
 all_front P [] ys all = All-nil P
 all_front P (x ∷ xs) ys all = All-cons P x xs (All-head P x (xs ++ ys) all) (all_front P xs ys (All-tail P x (xs ++ ys) all))
 
-contained_unit : (clauses : List (List Lit)) (only : Lit) → Contains clauses (only ∷ []) → IsIn (unit_bounds clauses) only
+pub contained_unit : (clauses : List (List Lit)) (only : Lit) → Contains clauses (only ∷ []) → IsIn (unit_bounds clauses) only
 contained_unit clauses only among =
     single_at clauses among.0 only (slice_get-get_or clauses among.0 (only ∷ []) among.1 ∙ ap (λ (c : List Lit). Some c) among.2)
 
@@ -79,7 +78,7 @@ atom_cases term Le Ge x y is = inr (λ i. record { term = term; side = Le; bound
 atom_cases term Ge Le x y is = let same : x ≡ y +ℤ pos 1 = opposite_sides y x (sym is) in inr (λ i. record { term = term; side = Ge; bound = same i })
 
 -- literals of one atom are the same or each other's negations
-same_atom : (one other : Lit) → atom one ≡ atom other → (one ≡ other) ⊎ (one ≡ negation other)
+pub same_atom : (one other : Lit) → atom one ≡ atom other → (one ≡ other) ⊎ (one ≡ negation other)
 same_atom one other is =
     let terms : one.term ≡ other.term = ap (λ a. a.0) is in
     let numbers : highest_below one.side one.bound ≡ highest_below other.side other.bound = ap (λ a. a.1) is in
@@ -94,7 +93,7 @@ module _ (it : LevelSearch) (kept : IsKept it) where
   abbrev pub GoalIsSafe : List Lit → Type 0
   GoalIsSafe box = GoalHolds it.search.store (available (level_of it) it.steps.items) it.goal it.numbers.items kept.numbered box
 
-  same_single_box : SayTheSame (single_bounds it.search) (box_of (level_of it) it.steps.items)
+  pub same_single_box : SayTheSame (single_bounds it.search) (box_of (level_of it) it.steps.items)
   same_single_box =
       subst (λ (ranges : List (ℤ × ℤ)). SayTheSame (range_bounds ranges ++ unit_bounds it.search.store) (box_of (level_of it) it.steps.items)) (sym kept.over.ranges)
       (same_box it.search.store (available (level_of it) it.steps.items) it.goal it.numbers.items kept.numbered (range_bounds it.system.now.ranges))

@@ -1,19 +1,17 @@
 -- What a logged step comes to.
-use Rattle.std.proofs.Common.{◌≡◌, ◌≢◌, ◌⊎◌, ℕ, ◌+◌, ◌<◌, ◌≤◌, List, [], ◌∷◌, ◌++◌, length, take, Option, Some, None, IfSome, refl, sym, ◌∙◌, ap, subst, arith, All, append_assoc}
+use Rattle.std.proofs.Common.{◌≡◌, ◌≢◌, ℕ, ◌<◌, List, [], ◌∷◌, ◌++◌, length, sym, ◌∙◌, subst, arith, All}
 use Rattle.std.proofs.lemmas.List.Elements.{All-nil, All-push, All-weaker}
 use Rattle.mix_system.specs.declared.literal.Lit.{Lit}
-use Rattle.mix_system.specs.Lit.{negation}
-use Rattle.mix_system.specs.Bounds.{IsFalseIn}
-use Rattle.mix_system.specs.System.{System, IsClause}
-use Rattle.mix_system.specs.Follows.{Follows, Propagates}
+use Rattle.mix_system.specs.System.{System}
+use Rattle.mix_system.specs.Follows.{Propagates}
 use Rattle.bound_trail.specs.Trail.{Trail, IsTrail}
-use Rattle.clause_search.specs.Search.{Search, known as store_known, single_bounds, present_level, WasQuiet}
+use Rattle.clause_search.specs.Search.{Search, known as store_known, present_level, WasQuiet}
 use Rattle.clause_search.specs.Learnt.{IsLearnt, IsAsserting, IsTop}
 use Rattle.clause_search.proofs.QuietLaws.{quiet_learnt}
 use Rattle.proof_term.specs.declared.step.Step.{Step}
 use Rattle.proof_term.specs.declared.step.Step.TheVariants.{Lemma}
-use Rattle.level_steps.specs.Level.{Level, clause_of, box_of}
-use Rattle.level_steps.specs.Steps.{IsStepOn, AreSteps, AreOpen, HaveEnded}
+use Rattle.level_steps.specs.Level.{clause_of}
+use Rattle.level_steps.specs.Steps.{IsStepOn, AreOpen}
 use Rattle.level_steps.specs.Plain.{IsNamed, IsPlain}
 use Rattle.level_search.specs.declared.level.LevelSearch.{LevelSearch}
 use Rattle.level_search.specs.Local.{local_hints}

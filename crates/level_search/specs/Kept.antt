@@ -1,5 +1,5 @@
 -- What is kept of a search on one level of a proof.
-use Rattle.std.specs.Prelude.{◌≡◌, ◌⊎◌, ℕ, List, [], ◌∷◌, ◌++◌, length, Option, IfSome, All, Contains}
+use Rattle.std.specs.Prelude.{◌≡◌, ◌⊎◌, List, [], ◌∷◌, length, IfSome, All, Contains}
 use Rattle.mix_system.specs.declared.literal.Lit.{Lit}
 use Rattle.mix_system.specs.System.{System, IsWellFormed, Exists}
 use Rattle.mix_system.specs.Bounds.{IsFalseIn, unit_bounds}

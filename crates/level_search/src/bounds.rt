@@ -59,7 +59,8 @@ pub(crate) fn is_in_range(system: &System, lit: Lit) -> bool
 
 // The bound that a range gives on a literal's term and side.
 fn end_of(range: (i128, i128), lit: Lit) -> Lit
-    ensures { result ≡ record { term = lit.term; side = lit.side; bound = range_end lit.side range } }
+    ensures { result ≡ record
+        { term = lit.term; side = lit.side; bound = range_end lit.side range } }
 {
     let (low, high) = range;
     match lit.side {
@@ -69,8 +70,8 @@ fn end_of(range: (i128, i128), lit: Lit) -> Lit
 }
 
 impl LevelSearch<'_> {
-    /// Whether the level's bounds say a literal: those of the ranges, of the goal, and of the clauses
-    /// of one literal. It takes no memory.
+    /// Whether the level's bounds say a literal: those of the ranges, of the goal, and of the
+    /// clauses of one literal. It takes no memory.
     pub fn says(&self, lit: Lit) -> bool
         requires kept { IsKept self.now }
         requires term { Exists (length self.now.system.now.ranges)

@@ -16,8 +16,8 @@ use wx_base::{Copied, NoMemory};
 /// What a conflict or a refutation comes to.
 #[derive(Clone, Copy, Debug, PartialEq, Eq)]
 pub enum Learning {
-    /// A clause was logged and added, and the search stands at the level on which it has one literal
-    /// left, or where it is false.
+    /// A clause was logged and added, and the search stands at the level on which it has one
+    /// literal left, or where it is false.
     Going,
     /// The empty clause was logged.
     Ended,

@@ -1,11 +1,11 @@
-ghost use Rattle.std.specs.Prelude.{◌≡◌, ◌⊎◌, ◌+◌, ◌<◌, ◌≤◌, [], ◌∷◌, ◌++◌, length, map, take, Option, Some, None, IfOk, OnOk};
+ghost use Rattle.std.specs.Prelude.{◌≡◌, ◌⊎◌, ◌+◌, ◌<◌, ◌≤◌, [], ◌∷◌, ◌++◌, length, map, take, Option, Some, None, IfOk, OnOk, OnErr};
 ghost use Rattle.mix_system.specs.declared.literal.Side.TheVariants.{Le};
 ghost use Rattle.mix_system.specs.Calm.{IsSmall};
 ghost use Rattle.mix_system.specs.System.{IsInner, Exists, IsClause};
 ghost use Rattle.bound_trail.specs.Trail.{box, level_end, IsOpen, IsTrail};
 ghost use Rattle.clause_search.specs.Answers.{Says};
 ghost use Rattle.clause_search.specs.Decided.{Decides};
-ghost use Rattle.clause_search.specs.Search.{Propagated};
+ghost use Rattle.clause_search.specs.Search.{HasGrown, Propagated};
 ghost use Rattle.level_steps.specs.Level.{Level, available};
 ghost use Rattle.level_steps.specs.Steps.{AreSteps};
 ghost use Rattle.level_steps.specs.Plain.{IsNamed};
@@ -22,7 +22,8 @@ use wx_base::NoMemory;
 
 /// A search over the clauses of one level of a proof, with the steps that it has logged.
 ///
-/// What holds between calls is said by `IsKept`. After want of memory nothing is said any more.
+/// What holds between calls is said by `IsKept`. Want of memory in `propagate` and `decide` leaves it
+/// so; after want of memory in another call nothing is said any more.
 #[derive(Debug, Drop)]
 pub struct LevelSearch<'a> {
     pub system: &'a System,
@@ -110,12 +111,13 @@ impl<'a> LevelSearch<'a> {
     /// Propagates, as the search does.
     pub fn propagate(&mut self, tally: &mut Tally) -> Result<Spread, NoMemory>
         requires kept { IsKept self.old }
-        ensures kept { OnOk result (IsKept self.new) }
-        ensures level { OnOk result (level_of self.new ≡ level_of self.old) }
-        ensures steps { OnOk result (self.new.steps.items ≡ self.old.steps.items) }
+        ensures kept { IsKept self.new }
+        ensures level { level_of self.new ≡ level_of self.old }
+        ensures steps { self.new.steps.items ≡ self.old.steps.items }
         ensures propagated { IfOk result
             (λ _. Propagated self.old.search self.new.search tally.old tally.new) }
         ensures says { IfOk result (λ spread. Says spread self.new.search tally.new) }
+        ensures err { OnErr result (HasGrown self.old.search self.new.search) }
     {
         self.search.propagate(tally)
     }
@@ -128,11 +130,12 @@ impl<'a> LevelSearch<'a> {
         requires inner { IsInner lit.now.bound }
         requires named { IsNamed self.old.system.now lit.now }
         requires open { IsOpen (box self.old.search.trail) lit.now }
-        ensures kept { OnOk result (IsKept self.new) }
-        ensures level { OnOk result (level_of self.new ≡ level_of self.old) }
-        ensures steps { OnOk result (self.new.steps.items ≡ self.old.steps.items) }
+        ensures kept { IsKept self.new }
+        ensures level { level_of self.new ≡ level_of self.old }
+        ensures steps { self.new.steps.items ≡ self.old.steps.items }
         ensures decides { IfOk result (λ decided. Decides decided lit.now
             self.old.search self.new.search tally.old tally.new) }
+        ensures err { OnErr result (self.new.search ≡ self.old.search) }
     {
         self.search.decide(lit, tally)
     }

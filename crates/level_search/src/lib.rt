@@ -1,5 +1,5 @@
-//! The search on one level of a proof: clauses, cuts and a goal, where each clause that is learnt is
-//! logged as a valid step.
+//! The search on one level of a proof: clauses, cuts and a goal, where each clause that is learnt
+//! is logged as a valid step.
 #![tactic(auto)]
 
 mod bounds;

@@ -75,13 +75,15 @@ impl LevelSearch<'_> {
         Ok(())
     }
 
-    // Adds a clause to the store, with its local number, and its literal to the single ones where it
-    // has no other.
+    // Adds a clause to the store, with its local number, and its literal to the single ones where
+    // it has no other.
     pub(crate) fn add(&mut self, lits: &[Lit], number: Option<u32>) -> Result<(), NoMemory>
-        requires { IsClause (length self.old.search.trail.ranges) self.old.search.trail.rows lits.now }
+        requires { IsClause
+            (length self.old.search.trail.ranges) self.old.search.trail.rows lits.now }
         ensures store { OnOk result (self.new.search ≡ record self.old.search
             { store = self.old.search.store ++ lits.now ∷ [] }) }
-        ensures numbers { OnOk result (self.new.numbers.items ≡ self.old.numbers.items ++ number ∷ []) }
+        ensures numbers { OnOk result (self.new.numbers.items
+            ≡ self.old.numbers.items ++ number ∷ []) }
         ensures singles { OnOk result (self.new.singles.items
             ≡ self.old.singles.items ++ unit_bounds (lits.now ∷ [])) }
         ensures system { self.new.system ≡ self.old.system }

@@ -7,7 +7,7 @@ use Rattle.level_steps.specs.Plain.{IsNamed}
 use Rattle.level_search.specs.declared.level.LevelSearch.{LevelSearch}
 use Rattle.level_search.specs.Kept.{IsKept}
 use Rattle.level_search.proofs.AllowedLaws.{over_decided}
-use Rattle.level_search.proofs.KeptLaws.{on_ok, kept_with}
+use Rattle.level_search.proofs.KeptLaws.{in_either, kept_with}
 use Rattle.level_search.proofs.level.LevelSearch.decide.Goals as goal
 
 kept_decided : (it : LevelSearch) (new : Search) (lit : Lit) (before after : Tally) → IsNamed it.system.now lit → IsKept it → (decided : Bool) → Decides decided lit it.search new before after → IsKept (record it { search = new })
@@ -16,4 +16,5 @@ kept_decided it new lit before after named kept false is = subst (λ (s : Search
 
 pub returns-clause-kept : goal.returns-clause-kept
 returns-clause-kept c =
-    on_ok c.decide.result _ _ (kept_decided c.args.self.now c.decide.new.self c.args.lit.now c.args.tally.now c.decide.new.tally c.requires.named c.requires.kept) c.decide.ensures
+    in_either c.decide.result _ _ _ (kept_decided c.args.self.now c.decide.new.self c.args.lit.now c.args.tally.now c.decide.new.tally c.requires.named c.requires.kept)
+    (λ same. subst (λ (s : Search). IsKept (record c.args.self.now { search = s })) (sym same) c.requires.kept) c.decide.ensures.decides c.decide.ensures.err

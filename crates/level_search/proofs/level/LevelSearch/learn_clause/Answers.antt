@@ -1,4 +1,4 @@
-use Rattle.std.proofs.Common.{◌≡◌, ℕ, ◌<◌, List, [], ◌∷◌, ◌++◌, length, map, sym, ◌∙◌, ap, subst, arith, All}
+use Rattle.std.proofs.Common.{ℕ, ◌<◌, [], ◌∷◌, ◌++◌, length, map, sym, ◌∙◌, ap, subst, arith, All}
 use Rattle.mix_system.specs.Lit.{negation}
 use Rattle.clause_search.specs.Search.{single_bounds}
 use Rattle.proof_term.specs.declared.step.Step.TheVariants.{Lemma}

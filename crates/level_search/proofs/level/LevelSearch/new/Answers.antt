@@ -1,4 +1,4 @@
-use Rattle.std.proofs.Common.{◌≡◌, ℕ, ◌<◌, length, get_or, Some, None, refl, sym, ◌∙◌, subst, arith}
+use Rattle.std.proofs.Common.{refl, ◌∙◌, arith}
 use Rattle.level_search.proofs.KeptLaws.{kept_first}
 use Rattle.level_search.proofs.level.LevelSearch.new.Goals as goal
 

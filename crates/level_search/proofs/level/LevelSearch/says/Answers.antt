@@ -1,4 +1,4 @@
-use Rattle.std.proofs.Common.{◌≡◌, refl, sym, subst}
+use Rattle.std.proofs.Common.{refl, sym, subst}
 use Rattle.mix_system.specs.Bounds.{IsIn, range_bounds}
 use Rattle.level_search.proofs.KeptLaws.{said_by_range, said_by_single}
 use Rattle.level_search.proofs.level.LevelSearch.says.Goals as goal

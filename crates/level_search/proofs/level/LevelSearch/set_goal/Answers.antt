@@ -1,4 +1,3 @@
-use Rattle.std.proofs.Common.{◌∙◌}
 use Rattle.level_search.proofs.KeptLaws.{ok_more, ok_both, kept_goal}
 use Rattle.level_search.proofs.level.LevelSearch.set_goal.Goals as goal
 
