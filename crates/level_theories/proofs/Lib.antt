@@ -1,0 +1,4 @@
+pub mod ExcludedLaws
+pub mod GoalLaws
+pub mod LatestLaws
+pub mod TheoryLaws

@@ -1,0 +1,3 @@
+pub mod Goal
+pub mod Latest
+pub mod Theory
