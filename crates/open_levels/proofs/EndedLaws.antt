@@ -1,5 +1,5 @@
 -- Steps in flat memory: their clauses stay as they are when literals are put behind or given back.
-use Rattle.std.proofs.Common.{◌≡◌, ◌≢◌, ◌+◌, ◌<◌, ◌≤◌, ℕ, List, [], ◌∷◌, ◌++◌, length, length-append, map, take, drop, get_or, Bool, false, Option, Some, None, refl, sym, ◌∙◌, ap, subst, ⊎_elim, All, arith}
+use Rattle.std.proofs.Common.{◌≡◌, ◌≢◌, ◌+◌, ◌-◌, ◌<◌, ◌≤◌, ℕ, zero, suc, List, [], ◌∷◌, ◌++◌, length, length-append, map, take, drop, get_or, Bool, false, Option, Some, None, refl, sym, ◌∙◌, ap, subst, ⊎_elim, All, arith}
 use Rattle.std.specs.Prelude.{MatchOption}
 use Rattle.std.specs.List.{AllPairs}
 use Rattle.std.proofs.lemmas.Bool.{cases_lt}
@@ -10,7 +10,7 @@ use Rattle.std.proofs.lemmas.Slice.{between_is}
 use Rattle.mix_system.specs.declared.literal.Lit.{Lit}
 use Rattle.proof_term.specs.Levels.{Finished}
 use Rattle.open_levels.specs.declared.ended.StepMark.{StepMark}
-use Rattle.open_levels.specs.Flat.{step_at, steps, Rises, Precedes, AreOrdered, AreMarks, IsAt, IsMarkAt}
+use Rattle.open_levels.specs.Flat.{step_at, steps, Rises, Precedes, AreOrdered, AreMarks, AreSmaller, AreGreater, IsAt, IsMarkAt}
 
 abbrev EndsBy : ℕ → StepMark → Type 0
 EndsBy k mark = mark.to ≤ k
@@ -157,3 +157,41 @@ pub none_left : (marks : List StepMark) (low high number : ℕ) → high ≤ low
     → ((k : ℕ) (d : StepMark) → high ≤ k → k < length marks → number < (get_or marks k d).number) → All (λ mark. mark.number ≢ number) marks
 none_left marks low high number met below above = λ k d within same.
     ⊎_elim (λ (lt : k < low). let was = below k d lt in absurd (omega (arith, was, same))) (λ (le : low ≤ k). let was = above k d (omega arith) within in absurd (omega (arith, was, same))) (cases_lt k low)
+
+-- places by how much numbers rise
+
+abbrev pub blank_mark : StepMark
+blank_mark = record { number = 0; from = 0; to = 0; is_cut = false }
+
+gap_to : (marks : List StepMark) → AreOrdered marks → (k n : ℕ) (d : StepMark) → k + n < length marks → (get_or marks k d).number + n ≤ (get_or marks (k + n) d).number
+gap_to marks ordered k zero d within =
+    let same : k + 0 ≡ k = omega arith in
+    let here : (get_or marks k d).number + 0 ≤ (get_or marks k d).number = omega arith in
+    rw same here
+gap_to marks ordered k (suc n) d within =
+    let before = gap_to marks ordered k n d (omega (arith, within)) in
+    let less = (ordered (k + n) (k + suc n) d (omega arith) within).0 in
+    omega (arith, before, less)
+
+pub smaller_before : (marks : List StepMark) → AreOrdered marks → (last number behind low : ℕ) → 0 < length marks → last ≡ (get_or marks (length marks - 1) blank_mark).number
+    → last ≤ number + behind → low ≡ length marks - 1 - behind → AreSmaller marks number low
+smaller_before marks ordered last number behind low some is near low_is = λ k d less.
+    let n = length marks - 1 - k in
+    let end : k + n ≡ length marks - 1 = omega (arith, less, low_is) in
+    let within : k + n < length marks = omega (arith, end, some) in
+    let gap = gap_to marks ordered k n d within in
+    let there : (get_or marks (k + n) d).number ≡ last =
+    ap (λ (m : StepMark). m.number) (get_or_default marks (k + n) d blank_mark within) ∙ ap (λ i. (get_or marks i blank_mark).number) end ∙ sym is in
+    omega (arith, gap, there, near, less, low_is, end)
+
+pub greater_behind : (marks : List StepMark) → AreOrdered marks → (first number high : ℕ) → 0 < length marks → first ≡ (get_or marks 0 blank_mark).number
+    → number < first + high → AreGreater marks number high
+greater_behind marks ordered first number high some is far = λ k d from within.
+    let same : 0 + k ≡ k = omega arith in
+    let gap = gap_to marks ordered 0 k d (omega (arith, within)) in
+    let there : (get_or marks (0 + k) d).number ≡ (get_or marks k d).number = ap (λ i. (get_or marks i d).number) same in
+    let first_is : (get_or marks 0 d).number ≡ first = ap (λ (m : StepMark). m.number) (get_or_default marks 0 d blank_mark some) ∙ sym is in
+    omega (arith, gap, there, first_is, far, from)
+
+pub greater_end : (marks : List StepMark) (number : ℕ) → AreGreater marks number (length marks)
+greater_end marks number = λ k d from within. absurd (omega (arith, from, within))

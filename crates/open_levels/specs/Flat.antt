@@ -37,3 +37,11 @@ IsAt steps number at = (at < length steps) × ((d : Finished) → (slice_index_o
 -- the same of what is kept
 abbrev pub IsMarkAt : List StepMark → ℕ → ℕ → Type 0
 IsMarkAt marks number at = (at < length marks) × ((d : StepMark) → (slice_index_or marks at d).number ≡ number)
+
+-- the numbers before a place are smaller
+abbrev pub AreSmaller : List StepMark → ℕ → ℕ → Type 0
+AreSmaller marks number low = (k : ℕ) (d : StepMark) → k < low → (slice_index_or marks k d).number < number
+
+-- the numbers from a place on are greater
+abbrev pub AreGreater : List StepMark → ℕ → ℕ → Type 0
+AreGreater marks number high = (k : ℕ) (d : StepMark) → high ≤ k → k < length marks → number < (slice_index_or marks k d).number

@@ -1,6 +1,6 @@
-ghost use Rattle.std.specs.Prelude.{◌≡◌, ◌≢◌, ◌<◌, ◌++◌, ◌∷◌, [], length, take, slice_index_or, MatchOption, OnOk, OnErr, All};
+ghost use Rattle.std.specs.Prelude.{◌≡◌, ◌≢◌, ◌<◌, ◌≤◌, ◌++◌, ◌∷◌, [], length, take, slice_index_or, MatchOption, OnOk, OnErr, All};
 ghost use Rattle.std.specs.List.{AllPairs};
-ghost use Rattle.open_levels.specs.Flat.{blank, IsAt, IsMarkAt, AreOrdered, Rises};
+ghost use Rattle.open_levels.specs.Flat.{blank, IsAt, IsMarkAt, AreOrdered, AreSmaller, AreGreater, Rises};
 
 use mix_system::Lit;
 use std::alloc::Global;
@@ -118,14 +118,15 @@ impl EndedSteps {
     }
 }
 
-// Where the mark with that number stands, by halving.
+// Where the mark with that number stands, by halving between the places that it may have: from one
+// place to another the numbers rise by as much at least.
 fn place_of(marks: &[StepMark], number: u64) -> Option<usize>
     requires { AreOrdered marks.now }
     ensures { MatchOption result (All (λ mark. mark.number ≢ number) marks.now)
         (IsMarkAt marks.now number) }
 {
-    let mut low = 0;
-    let mut high = marks.len();
+    let mut low = lowest(marks, number);
+    let mut high = highest(marks, number);
     while low < high {
         let middle = low + (high - low) / 2;
         let found = marks[middle].number;
@@ -139,4 +140,34 @@ fn place_of(marks: &[StepMark], number: u64) -> Option<usize>
         }
     }
     None
+}
+
+// A place before which all numbers are smaller.
+fn lowest(marks: &[StepMark], number: u64) -> usize
+    requires { AreOrdered marks.now }
+    ensures { AreSmaller marks.now number result }
+{
+    let count = marks.len();
+    if count == 0 {
+        return 0;
+    }
+    let behind = marks[count - 1].number.saturating_sub(number) as usize;
+    (count - 1).saturating_sub(behind)
+}
+
+// A place from which on all numbers are greater.
+fn highest(marks: &[StepMark], number: u64) -> usize
+    requires { AreOrdered marks.now }
+    ensures within { result ≤ length marks.now }
+    ensures greater { AreGreater marks.now number result }
+{
+    let count = marks.len();
+    if count == 0 {
+        return 0;
+    }
+    let ahead = number.saturating_sub(marks[0].number) as usize;
+    if ahead >= count {
+        return count;
+    }
+    ahead + 1
 }

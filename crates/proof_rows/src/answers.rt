@@ -101,7 +101,8 @@ pub fn repeated(alloc: Global, call: &str) -> Result<String, NoMemory> {
     shown(alloc, verdict(alloc, of == "U", bytes.as_slice())?)
 }
 
-// What lines come to that are fed one by one, and the answer to them and the rest behind the last line feed.
+// What lines come to that are fed one by one, and the answer to them and the rest behind the last
+// line feed.
 pub fn fed(alloc: Global, call: &str) -> Result<String, NoMemory> {
     let (of, marked) = call.split_once(' ').unwrap_or((call, ""));
     let (lines, rest) = marked.split_once('|').unwrap_or((marked, ""));

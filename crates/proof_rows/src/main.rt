@@ -1,8 +1,9 @@
-//! Reads rows, each the text of a proof with `/` for a line feed, and prints each with the answer to it.
+//! Reads rows, each the text of a proof with `/` for a line feed, and prints each with its answer.
 //! The rows are the file `stdin`, and what they give, found by hand, is the file `stdout`.
 //!
-//! `K TEXT` and `U TEXT` are texts over one of two systems; `begin K TEXT` is each beginning of the text; `times N K A|B|C` is the text
-//! of A, N times B, and C; and `lines K TEXT|REST` is fed line by line and ended with the rest.
+//! `K TEXT` and `U TEXT` are texts over one of two systems; `begin K TEXT` is each beginning of the
+//! text; `times N K A|B|C` is the text of A, N times B, and C; and `lines K TEXT|REST` is fed line
+//! by line and ended with the rest.
 #![tactic(auto)]
 
 mod answers;

@@ -4,8 +4,8 @@ use mix_system::{Lit, Part, Side, System, Term};
 use std::alloc::Global;
 use wx_base::NoMemory;
 
-// Three variables in 0 .. 0, 1 .. 1 and 0 .. 1, and two rows of three times the last, the first of which is the cost. The last is at least 1,
-// and at most 0 where it is said to be contrary.
+// Three variables in 0 .. 0, 1 .. 1 and 0 .. 1, and two rows of three times the last, the first of
+// which is the cost. The last is at least 1, and at most 0 where it is said to be contrary.
 pub fn system_of_three(alloc: Global, contrary: bool) -> Result<System, NoMemory>
     ensures { IfOk result (λ system. length system.rows ≡ 2) }
 {

@@ -7,7 +7,8 @@ use proof_text::{Line, LineRead, Multiple, read};
 use std::alloc::Global;
 use wx_base::NoMemory;
 
-// The text of a proof that is built of lines parted by `/`, with `/` for its line feeds. The nodes of a theory stand before it.
+// The text of a proof that is built of lines parted by `/`, with `/` for its line feeds. The nodes
+// of a theory stand before it.
 pub fn printed(alloc: Global, call: &str) -> Result<String, NoMemory> {
     let mut proof = Proof {
         goal: Goal::Nothing,

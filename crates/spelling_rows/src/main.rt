@@ -1,8 +1,10 @@
-//! Reads rows, each the text of a proof with `/` for a line feed, and prints each with what `parse` and `print` of proof_spelling give.
+//! Reads rows, each the text of a proof with `/` for a line feed, and prints each with what `parse`
+//! and `print` of proof_spelling give.
 //! The rows are the file `stdin`, and what they give, found by hand, is the file `stdout`.
 //!
-//! `read TEXT` is a text, read and printed; `begin TEXT` is each beginning of the text; `times N A|B|C` is the text of A, N times B,
-//! and C; and `print LINES` is a proof that is built of its goal, its shape, its steps and their nodes, and printed.
+//! `read TEXT` is a text, read and printed; `begin TEXT` is each beginning of the text;
+//! `times N A|B|C` is the text of A, N times B, and C; and `print LINES` is a proof that is built
+//! of its goal, its shape, its steps and their nodes, and printed.
 #![tactic(auto)]
 
 mod built;
