@@ -7,7 +7,6 @@ use Rattle.std.proofs.lemmas.List.{get_or-set_same, get_or-set_other, get_or_def
 use Rattle.mix_system.specs.Bounds.{range_end}
 use Rattle.mix_system.specs.Fits.{IsInRange}
 use Rattle.mix_system.specs.Row.{number_at}
-use Rattle.mix_system.specs.System.{IsRange}
 use Rattle.mix_system.specs.declared.literal.Side.{Side}
 use Rattle.mix_system.specs.declared.literal.Side.TheVariants.{Le, Ge}
 use Rattle.mix_system.specs.declared.row.Part.{Part}
@@ -39,6 +38,3 @@ module _ (ranges : List (ℤ × ℤ)) (upwards : Bool) (values : List ℤ) (v : 
       let same : k ≡ i = omega (arith, le, below) in
       let at_i : get_or parts k e ≡ get_or parts i d = ap (λ n. get_or parts n e) same ∙ get_or_default parts i e d inside in
       ap (λ (x : Part). number_at (set values (get_or parts i d).var v) x.var) at_i ∙ get_or-set_same values (get_or parts i d).var v (pos 0) within ∙ is ∙ ap (end_of ranges upwards) (sym at_i)) (cases_lt k i)
-
-pub in_order_of : (ranges : List (ℤ × ℤ)) (part : Part) → All IsRange ranges → part.var < length ranges → (get_or ranges part.var (pos 0, pos 0)).0 ≤ℤ (get_or ranges part.var (pos 0, pos 0)).1
-in_order_of ranges part all known = (all part.var (pos 0, pos 0) known).ordered

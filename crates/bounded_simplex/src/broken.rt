@@ -124,8 +124,8 @@ fn weight_of(equation: &Equation, late: bool) -> usize {
     if late { 0 } else { equation.entries.len() }
 }
 
-// The side on which the value of an equation's basic column breaks its bound, unless that is a bound
-// on a row that each of its sums keeps.
+// The side on which the value of an equation's basic column breaks its bound, unless that is a
+// bound on a row that each of its sums keeps.
 fn broken_side(
     bounds: &Bounds<'_>,
     reaches: &[Reach],

@@ -176,7 +176,7 @@ fn sum_at_ends(system: &System, row: u32, upwards: bool) -> Result<i128, Excess>
 fn end_at(system: &System, part: Part, upwards: bool) -> i128
     requires { part.var < length system.now.ranges }
     ensures end { result ≡ end_of system.now.ranges upwards part }
-    ensures well_formed { All IsRange system.now.ranges }
+    ensures range { IsRange (slice_index_or system.now.ranges part.var (pos 0, pos 0)) }
 {
     let (low, high) = system.range(part.var);
     match hindering_side(upwards, part.coeff) {

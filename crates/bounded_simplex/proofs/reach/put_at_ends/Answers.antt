@@ -7,7 +7,7 @@ use Rattle.mix_system.specs.declared.row.Part.{Part}
 use Rattle.bounded_simplex.specs.Lax.{end_of}
 use Rattle.bounded_simplex.specs.Reach.{AreAtEnds}
 use Rattle.bounded_simplex.specs.Refutation.{columns_of}
-use Rattle.bounded_simplex.proofs.PutLaws.{range_put, ends_put, in_order_of}
+use Rattle.bounded_simplex.proofs.PutLaws.{range_put, ends_put}
 use Rattle.bounded_simplex.proofs.reach.put_at_ends.Goals as goal
 
 blank : Part
@@ -25,10 +25,9 @@ loop-part-preserved c =
     let within : part.var < length values = omega (arith, known, c.loop-part.invariant.count, c.requires.count) in
     let end : c.end_at.result ≡ end_of system.ranges c.args.upwards part = search rules in
     let fits : FitsSigned w128 c.end_at.result = search rules in
-    let ordered = in_order_of system.ranges part c.end_at.ensures.well_formed known in
     record {
       count = length-set values _ _ ∙ c.loop-part.invariant.count;
-      in_range = simp to_z-of_z (range_put system.ranges c.args.upwards values c.end_at.result part within ordered end c.loop-part.invariant.in_range);
+      in_range = simp to_z-of_z (range_put system.ranges c.args.upwards values c.end_at.result part within c.end_at.ensures.range.ordered end c.loop-part.invariant.in_range);
       ends = simp to_z-of_z (ends_put system.ranges c.args.upwards values c.end_at.result parts i blank c.loop-part-test.true c.row-parts.ensures.well_formed.rising within end c.loop-part.invariant.ends);
     }
 

@@ -1,4 +1,4 @@
-use Rattle.std.proofs.Common.{◌<◌, length, pos, FitsSigned, ◌∙◌, rules, arith}
+use Rattle.std.proofs.Common.{◌≡◌, ◌<◌, length, pos, FitsSigned, subst, ◌∙◌, rules, arith}
 use Rattle.std.specs.Int.{w128}
 use Rattle.std.proofs.lemmas.Int.{to_z-of_z}
 use Rattle.std.proofs.lemmas.List.{length-set, get_or_default}
@@ -13,9 +13,11 @@ loop-column-preserved c =
     let values = c.loop-column.values.items in
     let within : c.loop-column.column < length values = omega (arith, c.loop-column.invariant.count, c.requires.count, c.columns-column-end.ensures.count) in
     let fits : FitsSigned w128 c.nearest_in_bounds.result = search rules in
-    let value_fits : FitsSigned w128 (number_at values c.loop-column.column) = search rules in
-    let value = c.index-value.is ∙ get_or_default values c.loop-column.column c.index-value.result.now (pos 0) within in
-    let moved = first_of (simp (to_z-of_z, value) at c.nearest_in_bounds.ensures.kept, rw value at c.nearest_in_bounds.ensures.kept) in
+    let before = c.index-value.result.now in
+    let before_fits : FitsSigned w128 before = search rules in
+    let value : before ≡ number_at values c.loop-column.column = c.index-value.ensures ∙ get_or_default values c.loop-column.column before (pos 0) within in
+    let kept = simp to_z-of_z at c.nearest_in_bounds.ensures.kept in
+    let moved = subst (λ z. StaysBetween c.args.bounds.now c.loop-column.column z c.nearest_in_bounds.result) value kept in
     record {
       count = length-set values _ _ ∙ c.loop-column.invariant.count;
       moved = simp to_z-of_z (moved_more c.args.bounds.now c.args.values.now.items values c.loop-column.column c.nearest_in_bounds.result within c.loop-column.invariant.later moved c.loop-column.invariant.moved);

@@ -61,7 +61,7 @@ returns-in-Ok-None-clause-answer c =
     let number = hinders s.bounds c.args.upwards c.args.row broken.within row of_row is_row c.requires.apart broken.bound in
     let hindered = row_hindered s.bounds c.args.upwards c.args.row broken.within row of_row is_row c.requires.apart broken.bound broken.is in
     let less = row_refutes s.bounds c.args.upwards c.args.row broken.within row of_row is_row c.requires.apart broken.bound broken.beyond in
-    absurd (no_none c.in_ok.field-0 (c.in-Ok-None.is ∙ ap Ok c.in-Ok-None.field-0-is) (c.in_ok.ensures.found number hindered less))
+    absurd (no_none c.in_ok-farkas.field-0 (c.in-Ok-None.is ∙ ap Ok c.in-Ok-None.field-0-is) (c.in_ok-farkas.ensures.found number hindered less))
 
 pub returns-clause-answer : goal.returns-clause-answer
 returns-clause-answer c =
