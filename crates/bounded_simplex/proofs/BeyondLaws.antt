@@ -29,7 +29,7 @@ use Rattle.bounded_simplex.proofs.EndLaws.{var_end, end_in_range}
 use Rattle.bounded_simplex.proofs.ReachLaws.{sum_reach, Ordered, IsOver}
 use Rattle.bounded_simplex.proofs.RowSumLaws.{row_order, row_total, own}
 
-pub number_or : Option ℤ → ℤ
+abbrev pub number_or : Option ℤ → ℤ
 number_or None = pos 0
 number_or (Some z) = z
 
@@ -74,7 +74,7 @@ module _ (bounds : BoundChanges) (upwards : Bool) (k : ℕ) (within : k < length
       let on : bound_on bounds part.var (hindering upwards (coefficient equation.entries.items part.var)) ≡ Some left.bound =
       ap (λ z. bound_on bounds part.var (hindering upwards z)) (part_coeff i d inside) ∙ ap (λ t. in_force bounds t (hindering upwards part.coeff)) (term_of_var (length bounds.system.ranges) part.var known) ∙ left.is in
       let value : hinders bound part.var ≡ left.bound =
-      ap (λ t. cond t bound (number_or (bound_on bounds part.var (hindering upwards (coefficient equation.entries.items part.var))))) (other part.var c (λ e. absurd (omega (arith, e, known)))) ∙ ap number_or on in
+      ap (λ t. cond t bound (number_or (bound_on bounds part.var (hindering upwards (coefficient equation.entries.items part.var))))) (other part.var c (λ e. absurd (omega (arith, e, known)))) ∙ ap (λ o. number_or o) on in
       left.is ∙ ap Some (sym value)
     where
       other : (a b : ℕ) → a ≢ b → eqb a b ≡ false
