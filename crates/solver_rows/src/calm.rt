@@ -2,7 +2,7 @@ ghost use Rattle.std.specs.Prelude.{◌≡◌, ◌↔◌, ◌+◌, ◌<◌, ◌�
 ghost use Rattle.std.specs.Int.Digits.{digits_of};
 ghost use Rattle.mix_system.specs.Calm.{IsSmall, IsCalm, row_size as size_of_row, range_size as size_of_range};
 ghost use Rattle.mix_system.specs.Lit.{negation};
-ghost use Rattle.mix_system.specs.System.{Exists, IsInner};
+ghost use Rattle.mix_system.specs.System.{Exists, IsInner, IsWellFormed};
 ghost use Rattle.mix_system.specs.Tally.{halving_depth};
 ghost use Rattle.mix_system.specs.declared.literal.Side.{Side as SpecSide};
 ghost use Rattle.bounded_simplex.specs.Combination.{IsCalmBox, AreSmall};
@@ -20,9 +20,10 @@ pub fn may_be_solved(simplex: &Simplex<'_>) -> bool
     ensures room { IsTrue result → length simplex.now.bounds.changes
         + halving_depth simplex.now.bounds.system ≤ simplex.now.bounds.room }
 {
-    is_calm(simplex.system())
-        && are_bounds_small(&simplex.bounds)
-        && depth(simplex.system()) <= u64::from(simplex.spare())
+    if !is_calm(simplex.system()) || !are_bounds_small(&simplex.bounds) {
+        return false;
+    }
+    depth(simplex.system()) <= u64::from(simplex.spare())
 }
 
 fn is_calm(system: &System) -> bool
@@ -165,7 +166,8 @@ fn is_small(number: i128) -> bool
 
 // How often all ranges can be halved, at most.
 fn depth(system: &System) -> u64
-    ensures { halving_depth system.now ≤ result }
+    ensures counted { halving_depth system.now ≤ result }
+    ensures well_formed { IsWellFormed system.now }
 {
     let mut depth: u64 = 0;
     for var in 0..system.vars() {

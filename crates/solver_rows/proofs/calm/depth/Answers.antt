@@ -1,4 +1,4 @@
-use Rattle.std.proofs.Common.{◌≡◌, ◌+◌, ◌≤◌, ℤ, pos, length, FitsSigned, ap, sym, subst, take, rules, arith}
+use Rattle.std.proofs.Common.{◌≡◌, ◌+◌, ◌≤◌, ◌<◌, ℤ, pos, length, FitsSigned, ap, sym, subst, take, rules, arith}
 use Rattle.std.specs.Prelude.{unsigned_abs, ◌-ℤ◌}
 use Rattle.std.specs.Int.{w128}
 use Rattle.std.specs.List.{sum_by}
@@ -19,7 +19,8 @@ loop-var-preserved c =
     let wide = simp to_z-of_z at c.abs_diff.ensures in
     let count : halvings range ≤ c.digits.result = subst (λ n. length (digits_of 2 n) ≤ c.digits.result) wide c.digits.ensures.count in
     let here = subst (λ r. halvings r ≤ c.digits.result) (sym at) count in
-    let more = sum_by_more halvings ranges c.loop-var.var (pos 0, pos 0) c.loop-var-test.true in
+    let within : c.loop-var.var < length ranges = omega (arith, c.loop-var-test.true, c.vars-var-end.ensures.count) in
+    let more = sum_by_more halvings ranges c.loop-var.var (pos 0, pos 0) within in
     record {
       counted = omega (arith, here, more, c.loop-var.invariant.counted);
       few = omega (arith, c.digits.ensures.few, c.loop-var.invariant.few);
