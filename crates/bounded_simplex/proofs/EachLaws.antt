@@ -54,3 +54,8 @@ of_both_none found next (Some x) none one two both = tt
 pub some_also : {X : Type 0} (P Q : X → Type 0) (o : Option X) → IfSome o P → ((x : X) → P x → Q x) → IfSome o Q
 some_also P Q None some also = tt
 some_also P Q (Some x) some also = also x some
+
+-- the same where the property of the next item is shown at each default
+pub each_all : {X : Type 0} (P : X → Type 0) (xs : List X) (i : ℕ) → i < length xs → ((k : ℕ) (d : X) → k < i → P (get_or xs k d)) → ((d : X) → P (get_or xs i d))
+    → (k : ℕ) (d : X) → k < i + 1 → P (get_or xs k d)
+each_all P xs i within before here k d below = each_more P xs i d within before (here d) k d below

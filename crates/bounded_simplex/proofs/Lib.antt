@@ -17,3 +17,9 @@ pub mod StepLaws
 pub mod RatioLaws
 pub mod CombinationLaws
 pub mod ListingLaws
+pub mod ReachLaws
+pub mod BeyondLaws
+pub mod MoveLaws
+pub mod BrokenLaws
+pub mod KnownLaws
+pub mod PutLaws

@@ -1,5 +1,5 @@
 -- The kept point: there is one, and each bound keeps or breaks all ways to write it.
-use Rattle.std.proofs.Common.{◌≡◌, ◌≢◌, ℕ, suc, ◌<◌, ◌≤◌, true, false, cond, eqb, List, [], ◌∷◌, length, get_or, Option, None, Some, ℤ, pos, negsuc, ◌+ℤ◌, ◌-ℤ◌, ◌*ℤ◌, ◌≤ℤ◌, All, refl, sym, ap, ◌∙◌, subst, ◌⊎◌, inl, inr, ⊎_elim, arith}
+use Rattle.std.proofs.Common.{◌≡◌, ◌≢◌, ℕ, suc, ◌<◌, ◌≤◌, ◌+◌, ◌-◌, true, false, cond, eqb, List, [], ◌∷◌, length, get_or, Option, None, Some, ℤ, pos, negsuc, ◌+ℤ◌, ◌-ℤ◌, ◌*ℤ◌, ◌≤ℤ◌, All, refl, sym, ap, ◌∙◌, subst, ◌⊎◌, inl, inr, ⊎_elim, arith}
 use Rattle.std.specs.Prelude.{not}
 use Rattle.std.proofs.lemmas.Int.{ints}
 use Rattle.std.proofs.lemmas.Bool.{cases_eq, cases_lt}
@@ -10,7 +10,8 @@ use Rattle.std.proofs.Math.IntN.{*ℤ-zero}
 use Rattle.mix_system.specs.declared.literal.Side.{Side}
 use Rattle.mix_system.specs.declared.literal.Side.TheVariants.{Le, Ge}
 use Rattle.mix_system.specs.Row.{number_at}
-use Rattle.mix_system.specs.System.{System}
+use Rattle.mix_system.specs.System.{System, IsWellFormed}
+use Rattle.mix_system.specs.declared.literal.Term.TheVariants.{Var, Row}
 use Rattle.mix_system.proofs.ProductLaws.{le-*ℤ}
 use Rattle.tableau_rows.specs.declared.entry.Entry.{Entry}
 use Rattle.tableau_rows.specs.declared.equation.Equation.{Equation}
@@ -19,10 +20,15 @@ use Rattle.tableau_rows.specs.Substitution.{taken, sum_at, Satisfies}
 use Rattle.tableau_rows.specs.Turning.{others}
 use Rattle.tableau_rows.proofs.TotalLaws.{unit_same, unit_other}
 use Rattle.tableau_rows.proofs.RingLaws.{mul_comm, add-mul, mul-add, mul_assoc, neg-mul}
-use Rattle.bounded_simplex.specs.InForce.{BoundChanges}
+use Rattle.bounded_simplex.specs.InForce.{BoundChanges, in_force}
+use Rattle.bounded_simplex.specs.Lax.{IsLaxAt, IsLax}
+use Rattle.bounded_simplex.specs.Terms.{term_of}
 use Rattle.bounded_simplex.specs.Point.{Admits, AreInBounds, numerator_of, Keeps, IsOutside, IsKeptPoint, IsPoint, IsBeyond}
 use Rattle.bounded_simplex.specs.Refutation.{columns_of, bound_on}
-use Rattle.bounded_simplex.specs.TableauOf.{AllHold, AreApart, TableauOf}
+use Rattle.bounded_simplex.specs.TableauOf.{AllHold, AreApart, Solves, TableauOf}
+use Rattle.bounded_simplex.proofs.CoefficientLaws.{term_of_var, term_of_row}
+use Rattle.bounded_simplex.proofs.EndLaws.{var_end}
+use Rattle.bounded_simplex.proofs.ReachLaws.{lax_holds}
 use Rattle.bounded_simplex.proofs.EachLaws.{IsBasicOf, outside_or_basic}
 use Rattle.bounded_simplex.proofs.WithinLaws.{no_entry, entry_taken}
 
@@ -212,8 +218,41 @@ value_of system rows values denominator number of kept k row within is =
     omega (arith, ints, solved_split row number, holds, sum)
 
 module _ (bounds : BoundChanges) (rows : List Equation) (values : List ℤ) (of : TableauOf bounds.system rows) where
-  pub point_from : length values ≡ columns_of bounds.system → AreInBounds bounds values → All (λ equation. (side : Side) → Keeps bounds values equation side) rows → IsPoint bounds rows values
-  point_from count in_bounds all =
+  -- each column keeps a bound, or it is a row's bound that is lax
+  abbrev Unless : ℤ → (ℕ → ℤ) → Type 0
+  Unless d number = (column : ℕ) (side : Side) → column < columns_of bounds.system → Admits side (bound_on bounds column side) d (number column) ⊎ IsLax bounds column side
+
+  vars_keep : (d : ℤ) (number : ℕ → ℤ) → Unless d number → (var : ℕ) (side : Side) → var < length bounds.system.ranges → Admits side (in_force bounds (Var var) side) d (number var)
+  vars_keep d number unless var side inside =
+      let vars = length bounds.system.ranges in
+      ⊎_elim (λ (keeps : Admits side (bound_on bounds var side) d (number var)). subst (λ t. Admits side (in_force bounds t side) d (number var)) (term_of_var vars var inside) keeps)
+      (λ (lax : IsLax bounds var side).
+      let left = var_end bounds var side in
+      absurd (subst (λ t. IsLaxAt bounds.system t side left.bound) (term_of_var vars var inside) (lax left.bound (ap (λ t. in_force bounds t side) (term_of_var vars var inside) ∙ left.is))))
+      (unless var side (omega (arith, inside)))
+
+  -- then each keeps its bounds
+  all_keep : (d : ℤ) (number : ℕ → ℤ) → IsWellFormed bounds.system → pos 1 ≤ℤ d → Solves bounds.system number → Unless d number
+      → (column : ℕ) (side : Side) → column < columns_of bounds.system → Admits side (bound_on bounds column side) d (number column)
+  all_keep d number formed positive solves unless column side within =
+      let vars = length bounds.system.ranges in
+      ⊎_elim (λ (var : column < vars).
+      subst (λ t. Admits side (in_force bounds t side) d (number column)) (sym (term_of_var vars column var)) (vars_keep d number unless column side var))
+      (λ (beyond : vars ≤ column).
+      let row = column - vars in
+      let same : vars + row ≡ column = omega (arith, beyond) in
+      let inside : row < length bounds.system.rows = omega (arith, same, within) in
+      let term : term_of vars column ≡ Row row = ap (term_of vars) (sym same) ∙ term_of_row vars row in
+      ⊎_elim (λ (keeps : Admits side (bound_on bounds column side) d (number column)). keeps)
+      (λ (lax : IsLax bounds column side).
+      let holds = lax_holds bounds row d number (formed.rows row [] inside) inside positive solves (vars_keep d number unless) side (in_force bounds (Row row) side)
+      (λ bound is. subst (λ t. IsLaxAt bounds.system t side bound) term (lax bound (ap (λ t. in_force bounds t side) term ∙ is))) in
+      subst (λ c. Admits side (bound_on bounds column side) d (number c)) same (subst (λ t. Admits side (in_force bounds t side) d (number (vars + row))) (sym term) holds))
+      (unless column side within)) (cases_lt column vars)
+
+  pub point_from : IsWellFormed bounds.system → length values ≡ columns_of bounds.system → AreInBounds bounds values → All (λ equation. (side : Side) → Keeps bounds values equation side ⊎ IsLax bounds equation.basic side) rows
+      → IsPoint bounds rows values
+  point_from formed count in_bounds all =
       let meets = meets_all rows values of.apart in
       let kept : IsKeptPoint bounds.system rows values meets.denominator meets.number = record {
         positive = meets.positive;
@@ -224,17 +263,19 @@ module _ (bounds : BoundChanges) (rows : List Equation) (values : List ℤ) (of 
         denominator = meets.denominator;
         number = meets.number;
         kept = kept;
-        inside = λ column side within.
+        inside = all_keep meets.denominator meets.number formed meets.positive kept.solves (λ column side within.
             ⊎_elim (λ (outside : IsOutside rows column).
-            admits_same side (bound_on bounds column side) (pos 1) (number_at values column) meets.denominator (meets.number column) (omega (arith, ints)) meets.positive
-            (omega (arith, ints, meets.rest column outside)) (in_bounds column side (omega (arith, count))))
+            inl (admits_same side (bound_on bounds column side) (pos 1) (number_at values column) meets.denominator (meets.number column) (omega (arith, ints)) meets.positive
+            (omega (arith, ints, meets.rest column outside)) (in_bounds column side (omega (arith, count)))))
             (λ (basic : IsBasicOf rows column).
             let row = basic.row in
-            let keeps : Keeps bounds values row side = subst (λ (x : Equation). Keeps bounds values x side) (sym basic.is) (all basic.at row basic.within side) in
             let value = value_of bounds.system rows values meets.denominator meets.number of kept basic.at row basic.within basic.is in
-            subst (λ c. Admits side (bound_on bounds c side) meets.denominator (meets.number c)) basic.same
-            (admits_same side (bound_on bounds row.basic side) row.denominator (numerator_of values row) meets.denominator (meets.number row.basic) row.sound.positive meets.positive value keeps))
-            (outside_or_basic rows column);
+            subst (λ c. Admits side (bound_on bounds c side) meets.denominator (meets.number c) ⊎ IsLax bounds c side) basic.same
+            (⊎_elim (λ (keeps : Keeps bounds values row side).
+            inl (admits_same side (bound_on bounds row.basic side) row.denominator (numerator_of values row) meets.denominator (meets.number row.basic) row.sound.positive meets.positive value keeps))
+            (λ (lax : IsLax bounds row.basic side). inr lax)
+            (subst (λ (x : Equation). Keeps bounds values x side ⊎ IsLax bounds x.basic side) (sym basic.is) (all basic.at row basic.within side))))
+            (outside_or_basic rows column));
       }
 
   pub beyond_from : (at : ℕ) (side : Side) → at < length rows → ((d : Equation) → ¬ Keeps bounds values (get_or rows at d) side) → IsBeyond bounds rows values

@@ -1,5 +1,5 @@
 -- A row's bound and one bound of each of its variables: what they form fits in a calm box in which each variable is fixed, and they refute it where the sum breaks the bound.
-use Rattle.std.proofs.Common.{◌≡◌, ◌≢◌, ℕ, ◌+◌, ◌^◌, ◌<◌, ◌≤◌, Bool, true, false, cond, eqb, List, [], ◌∷◌, ◌++◌, length, get_or, map, Option, None, Some, Result, Ok, ℤ, pos, negsuc, neg_ℤ, ◌+ℤ◌, ◌-ℤ◌, ◌*ℤ◌, ◌≤ℤ◌, ◌<ℤ◌, All, refl, sym, ap, ◌∙◌, subst, ⊎_elim, arith}
+use Rattle.std.proofs.Common.{◌≡◌, ◌≢◌, ℕ, ◌+◌, ◌^◌, ◌<◌, ◌≤◌, Bool, true, false, cond, eqb, List, [], ◌∷◌, ◌++◌, length, get_or, drop, map, Option, None, Some, Result, Ok, ℤ, pos, negsuc, neg_ℤ, ◌+ℤ◌, ◌-ℤ◌, ◌*ℤ◌, ◌≤ℤ◌, ◌<ℤ◌, All, refl, sym, ap, ◌∙◌, subst, ⊎_elim, arith}
 use Rattle.std.specs.Prelude.{unsigned_abs, not, IfOk, IfNone, IsSome}
 use Rattle.std.specs.Int.{w128}
 use Rattle.std.proofs.lemmas.Int.{ints, fits_signed_from_abs}
@@ -214,3 +214,7 @@ keeps_next bounds point row before low high k side within =
     of_side : (side : Side) → KeepsSum bounds point row side
     of_side Ge = low
     of_side Le = high
+
+-- the entries of a row's equation beside its own
+pub row_others : (system : System) (k : ℕ) (equation : Equation) → IsOfRow system k equation → IsRow (length system.ranges) (get_or system.rows k []) → others equation.basic equation.entries.items ≡ map entry_of (get_or system.rows k [])
+row_others system k equation is row = ap (drop 1) (row_order system k equation is row)

@@ -32,36 +32,59 @@ no_none r is some = absurd (false≢true (rw is at some))
 pub ok_true : {E : Type 0} (P : Type 0) (r : Result Bool E) (b : Bool) → r ≡ Ok b → b ≡ true → IfOk r (λ found. found ≡ true → P) → P
 ok_true {E} P r b is holds clause = (subst (λ (x : Result Bool E). IfOk x (λ found. found ≡ true → P)) (is ∙ ap Ok holds) clause) refl
 
--- a term without bounds keeps them
-pub no_bounds : (f : Side → Option ℤ) (d n : ℤ) → f Ge ≡ None → f Le ≡ None → (side : Side) → Admits side (f side) d n
-no_bounds f d n low high Ge = subst (λ o. Admits Ge o d n) (sym low) tt
-no_bounds f d n low high Le = subst (λ o. Admits Le o d n) (sym high) tt
+-- what is said of an end that is there
+pub some_is : {A : Type 0} (P : A → Type 0) (o : Option A) → IfSome o P → (a : A) → o ≡ Some a → P a
+some_is P None some a is = absurd (cc)
+some_is P (Some x) some a is = let e : x ≡ a = cc in subst P e some
 
-pub both_bounds : (f : Side → Option ℤ) (d n : ℤ) (low high : Option ℤ) → f Ge ≡ low → f Le ≡ high → Admits Ge low d n → Admits Le high d n → (side : Side) → Admits side (f side) d n
-both_bounds f d n low high is_low is_high keeps_low keeps_high Ge = subst (λ o. Admits Ge o d n) (sym is_low) keeps_low
-both_bounds f d n low high is_low is_high keeps_low keeps_high Le = subst (λ o. Admits Le o d n) (sym is_high) keeps_high
+pub none_is : {A : Type 0} (P : Type 0) (o : Option A) → IfNone o P → o ≡ None → P
+none_is P None none is = none
+none_is P (Some x) none is = absurd (cc)
 
-pub compare_step : (bounds : BoundChanges) (equation : Equation) (low high : Option ℤ) (excess : Excess) → bound_on bounds equation.basic Ge ≡ low → bound_on bounds equation.basic Le ≡ high
-    → IsProduct low equation.denominator excess ⊎ IsProduct high equation.denominator excess → IsCompareStep bounds equation excess.y excess
-compare_step bounds equation low high excess is_low is_high of =
-    ⊎_elim (λ (p : IsProduct low equation.denominator excess). record { bounded = inl (is_low ∙ p.0); formed = p.1 })
-    (λ (p : IsProduct high equation.denominator excess). record { bounded = inr (is_high ∙ p.0); formed = p.1 }) of
-
-pub sides_break : (f : Side → Option ℤ) (d n m : ℤ) (low high : Option ℤ) → f Ge ≡ low → f Le ≡ high → n ≡ m → (found : Option Side)
-    → IfSome found (λ side. ¬ Admits side (bound_of low high side) d n) → IfSome found (λ side. ¬ Admits side (f side) d m)
-sides_break f d n m low high is_low is_high same None breaks = breaks
-sides_break f d n m low high is_low is_high same (Some Ge) breaks = rw (is_low, ← same) breaks
-sides_break f d n m low high is_low is_high same (Some Le) breaks = rw (is_high, ← same) breaks
-
-pub sides_keep : (f : Side → Option ℤ) (d n m : ℤ) (low high : Option ℤ) → f Ge ≡ low → f Le ≡ high → n ≡ m → (found : Option Side)
-    → IfNone found (Admits Ge low d n × Admits Le high d n) → IfNone found ((side : Side) → Admits side (f side) d m)
-sides_keep f d n m low high is_low is_high same None keeps = λ side. subst (λ z. Admits side (f side) d z) same (both_bounds f d n low high is_low is_high keeps.0 keeps.1 side)
-sides_keep f d n m low high is_low is_high same (Some side) keeps = keeps
+-- an end that stands for a bound or says that it is lax
+tight_keeps : (side : Side) (tight bound : Option ℤ) (Lax : Type 0) (d n : ℤ) → ((b : ℤ) → tight ≡ Some b → bound ≡ Some b) → (tight ≡ None → Lax) → Admits side tight d n → Admits side bound d n ⊎ Lax
+tight_keeps side None bound Lax d n is lax keeps = inr (lax refl)
+tight_keeps side (Some b) bound Lax d n is lax keeps = inl (subst (λ o. Admits side o d n) (sym (is b refl)) keeps)
 
 -- a bound that is broken is there
 pub broken_bound : (side : Side) (o : Option ℤ) (d n : ℤ) → ¬ Admits side o d n → (bound : ℤ) × (o ≡ Some bound)
 broken_bound side None d n broken = absurd (broken tt)
 broken_bound side (Some bound) d n broken = (bound, refl)
+
+module _ (f : Side → Option ℤ) (Lax : Side → Type 0) (low high : Option ℤ) (is_low : (b : ℤ) → low ≡ Some b → f Ge ≡ Some b) (is_high : (b : ℤ) → high ≡ Some b → f Le ≡ Some b) where
+  pub compare_step : (bounds : BoundChanges) (equation : Equation) (excess : Excess) → f ≡ bound_on bounds equation.basic
+      → IsProduct low equation.denominator excess ⊎ IsProduct high equation.denominator excess → IsCompareStep bounds equation excess.y excess
+  compare_step bounds equation excess same of =
+      ⊎_elim (λ (p : IsProduct low equation.denominator excess). record { bounded = inl (sym (ap (λ g. g Ge) same) ∙ is_low excess.y p.0); formed = p.1 })
+      (λ (p : IsProduct high equation.denominator excess). record { bounded = inr (sym (ap (λ g. g Le) same) ∙ is_high excess.y p.0); formed = p.1 }) of
+
+  pub sides_break : (d n m : ℤ) → n ≡ m → (found : Option Side) → IfSome found (λ side. ¬ Admits side (bound_of low high side) d n) → IfSome found (λ side. ¬ Admits side (f side) d m)
+  sides_break d n m same None breaks = breaks
+  sides_break d n m same (Some Ge) breaks = λ keeps. breaks (there low Ge is_low (subst (λ z. Admits Ge (f Ge) d z) (sym same) keeps))
+    where
+      there : (o : Option ℤ) (side : Side) → ((b : ℤ) → o ≡ Some b → f side ≡ Some b) → Admits side (f side) d n → Admits side o d n
+      there None side is keeps = tt
+      there (Some b) side is keeps = subst (λ o. Admits side o d n) (is b refl) keeps
+  sides_break d n m same (Some Le) breaks = λ keeps. breaks (there high Le is_high (subst (λ z. Admits Le (f Le) d z) (sym same) keeps))
+    where
+      there : (o : Option ℤ) (side : Side) → ((b : ℤ) → o ≡ Some b → f side ≡ Some b) → Admits side (f side) d n → Admits side o d n
+      there None side is keeps = tt
+      there (Some b) side is keeps = subst (λ o. Admits side o d n) (is b refl) keeps
+
+  pub sides_keep : (d n m : ℤ) → (low ≡ None → Lax Ge) → (high ≡ None → Lax Le) → n ≡ m → (found : Option Side) → IfNone found (Admits Ge low d n × Admits Le high d n)
+      → IfNone found ((side : Side) → Admits side (f side) d m ⊎ Lax side)
+  sides_keep d n m lax_low lax_high same None keeps = of_side
+    where
+      of_side : (side : Side) → Admits side (f side) d m ⊎ Lax side
+      of_side Ge = tight_keeps Ge low (f Ge) (Lax Ge) d m is_low lax_low (subst (λ z. Admits Ge low d z) same keeps.0)
+      of_side Le = tight_keeps Le high (f Le) (Lax Le) d m is_high lax_high (subst (λ z. Admits Le high d z) same keeps.1)
+  sides_keep d n m lax_low lax_high same (Some side) keeps = keeps
+
+  -- the side that is found isn't lax
+  pub sides_tight : (d n : ℤ) → ((b : ℤ) → low ≡ Some b → ¬ Lax Ge) → ((b : ℤ) → high ≡ Some b → ¬ Lax Le) → (found : Option Side) → IfSome found (λ side. ¬ Admits side (bound_of low high side) d n) → IfSome found (λ side. ¬ Lax side)
+  sides_tight d n tight_low tight_high None breaks = breaks
+  sides_tight d n tight_low tight_high (Some Ge) breaks = let (b, is) = broken_bound Ge low d n breaks in tight_low b is
+  sides_tight d n tight_low tight_high (Some Le) breaks = let (b, is) = broken_bound Le high d n breaks in tight_high b is
 
 hindering_below : (upwards : Bool) (z : ℤ) → z <ℤ pos 0 → hindering upwards z ≡ cond upwards Ge Le
 hindering_below upwards (pos n) below = absurd (omega (arith, ints))

@@ -7,12 +7,14 @@ use Rattle.mix_system.specs.declared.literal.Side.TheVariants.{Le, Ge}
 use Rattle.tableau_rows.specs.declared.equation.Equation.{Equation}
 use Rattle.bounded_simplex.specs.InForce.{BoundChanges}
 use Rattle.bounded_simplex.specs.Point.{Keeps}
+use Rattle.bounded_simplex.specs.Lax.{IsLax}
 use Rattle.bounded_simplex.specs.declared.broken.Broken.{Broken}
 
 pub record IsBroken (bounds : BoundChanges) (rows : List Equation) (values : List ℤ) (broken : Broken) : Type 0 where
   pub within : broken.at < length rows
   pub basic : (d : Equation) → broken.basic ≡ (slice_index_or rows broken.at d).basic
   pub breaks : (d : Equation) → ¬ Keeps bounds values (slice_index_or rows broken.at d) broken.side
+  pub tight : (d : Equation) → ¬ IsLax bounds (slice_index_or rows broken.at d).basic broken.side
 
 -- the one of two bounds that stands on a side
 abbrev pub bound_of : Option ℤ → Option ℤ → Side → Option ℤ

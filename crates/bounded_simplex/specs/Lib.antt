@@ -4,9 +4,11 @@ pub mod Broken
 pub mod Combination
 pub mod Event
 pub mod InForce
+pub mod Lax
 pub mod Listing
 pub mod Pivot
 pub mod Point
+pub mod Reach
 pub mod Refutation
 pub mod Settled
 pub mod StoredBounds

@@ -4,12 +4,15 @@ ghost use Rattle.wx_num.specs.Excess.{Overflows};
 ghost use Rattle.tableau_rows.specs.declared.equation.Equation.{Equation as AnEquation};
 ghost use Rattle.bounded_simplex.specs.Broken.{IsBroken, IsProduct, bound_of};
 ghost use Rattle.bounded_simplex.specs.Event.{IsFormedAt, IsOfBounded, IsOfEquation};
+ghost use Rattle.bounded_simplex.specs.Lax.{IsLax};
+ghost use Rattle.bounded_simplex.specs.Reach.{HaveRoom};
 ghost use Rattle.bounded_simplex.specs.Point.{Admits, Keeps as KeepsBound};
 ghost use Rattle.bounded_simplex.specs.Refutation.{columns_of, bound_on};
 ghost use Rattle.bounded_simplex.specs.TableauOf.{AreWithin};
 
 use crate::fault::Fault;
-use crate::{Bounds, Place};
+use crate::reach::tight_end;
+use crate::{Bounds, Place, Reach};
 use mix_system::Side;
 use tableau_rows::Equation;
 use wx_num::{Excess, Num};
@@ -40,15 +43,17 @@ impl Broken {
 /// basic column outright.
 pub(crate) fn first_broken(
     bounds: &Bounds<'_>,
+    reaches: &[Reach],
     rows: &[Equation],
     values: &[i128],
     late: bool,
 ) -> Result<Option<Broken>, Fault>
+    requires room { HaveRoom bounds.now reaches.now }
     requires known { AreWithin (columns_of bounds.now.system) rows.now }
     requires values { length values.now ≡ columns_of bounds.now.system }
     ensures none { IfOk result (λ found. IfNone found
-        (All (λ equation. (side : Side)
-        → KeepsBound bounds.now values.now equation side) rows.now)) }
+        (All (λ equation. (side : Side) → KeepsBound bounds.now values.now equation side
+        ⊎ IsLax bounds.now equation.basic side) rows.now)) }
     ensures broken { IfOk result (λ found. IfSome found (IsBroken bounds.now rows.now values.now)) }
     ensures formed { IfErr result (IsOfEquation bounds.now rows.now values.now) }
     ensures bounded { IfErr result (λ fault. IsOfBounded bounds.now fault.place) }
@@ -56,7 +61,7 @@ pub(crate) fn first_broken(
 {
     let mut found = None;
     for at in 0..rows.len() {
-        let next = match broken_at(bounds, rows, values, at, late) {
+        let next = match broken_at(bounds, reaches, rows, values, at, late) {
             Ok(next) => next,
             Err(fault) => return Err(fault),
         };
@@ -82,24 +87,27 @@ fn earlier(found: Option<Broken>, next: Option<Broken>) -> Option<Broken>
 // The equation at a place, where it is broken.
 fn broken_at(
     bounds: &Bounds<'_>,
+    reaches: &[Reach],
     rows: &[Equation],
     values: &[i128],
     at: usize,
     late: bool,
 ) -> Result<Option<Broken>, Fault>
+    requires room { HaveRoom bounds.now reaches.now }
     requires known { AreWithin (columns_of bounds.now.system) rows.now }
     requires values { length values.now ≡ columns_of bounds.now.system }
     requires at { at < length rows.now }
     ensures none { IfOk result (λ found. IfNone found
         ((d : AnEquation) (side : Side)
-        → KeepsBound bounds.now values.now (slice_index_or rows.now at d) side)) }
+        → KeepsBound bounds.now values.now (slice_index_or rows.now at d) side
+        ⊎ IsLax bounds.now (slice_index_or rows.now at d).basic side)) }
     ensures broken { IfOk result (λ found. IfSome found (IsBroken bounds.now rows.now values.now)) }
     ensures formed { IfErr result (IsOfEquation bounds.now rows.now values.now) }
     ensures bounded { IfErr result (λ fault. IsOfBounded bounds.now fault.place) }
     ensures overflows { IfErr result (λ fault. Overflows fault.excess) }
 {
     let equation = &rows[at];
-    match broken_side(bounds, values, equation) {
+    match broken_side(bounds, reaches, values, equation) {
         Ok(Some(side)) => Ok(Some(Broken {
             at,
             basic: equation.basic,
@@ -116,28 +124,34 @@ fn weight_of(equation: &Equation, late: bool) -> usize {
     if late { 0 } else { equation.entries.len() }
 }
 
-// The side on which the value of an equation's basic column breaks its bound.
+// The side on which the value of an equation's basic column breaks its bound, unless that is a
+// bound on a row that each of its sums keeps.
 fn broken_side(
     bounds: &Bounds<'_>,
+    reaches: &[Reach],
     values: &[i128],
     equation: &Equation,
 ) -> Result<Option<Side>, Fault>
     requires known { All
         (λ entry. entry.column < columns_of bounds.now.system) equation.now.entries.items }
+    requires room { HaveRoom bounds.now reaches.now }
     requires basic { equation.now.basic < columns_of bounds.now.system }
     requires values { length values.now ≡ columns_of bounds.now.system }
     ensures none { IfOk result (λ found. IfNone found
-        ((side : Side) → KeepsBound bounds.now values.now equation.now side)) }
+        ((side : Side) → KeepsBound bounds.now values.now equation.now side
+        ⊎ IsLax bounds.now equation.now.basic side)) }
     ensures some { IfOk result (λ found. IfSome found
         (λ side. ¬ KeepsBound bounds.now values.now equation.now side)) }
+    ensures tight { IfOk result (λ found. IfSome found
+        (λ side. ¬ IsLax bounds.now equation.now.basic side)) }
     ensures formed { IfErr result (λ fault.
         IsFormedAt bounds.now values.now equation.now fault.place fault.excess) }
     ensures bounded { IfErr result (λ fault. IsOfBounded bounds.now fault.place) }
     ensures overflows { IfErr result (λ fault. Overflows fault.excess) }
 {
     let basic = bounds.term_at(equation.basic);
-    let low = bounds.end(basic, Side::Ge);
-    let high = bounds.end(basic, Side::Le);
+    let low = tight_end(bounds, reaches, basic, Side::Ge);
+    let high = tight_end(bounds, reaches, basic, Side::Le);
     if !has_bound(low, high) {
         return Ok(None);
     }
@@ -217,7 +231,7 @@ fn is_within(side: Side, bound: i128, value: i128) -> bool
 }
 
 // Whether there is one of two bounds.
-fn has_bound(low: Option<i128>, high: Option<i128>) -> bool
+pub(crate) fn has_bound(low: Option<i128>, high: Option<i128>) -> bool
     ensures some { IsTrue result → IsSome low ⊎ IsSome high }
     ensures none { IsFalse result → (low ≡ None) × (high ≡ None) }
 {

@@ -7,8 +7,8 @@ ghost use Rattle.bounded_simplex.specs.Refutation.{columns_of};
 
 use crate::fault::Fault;
 use crate::mended::Mended;
+use crate::reach::look_at_rows;
 use crate::refutation::first_contradiction;
-use crate::settle::settle;
 use crate::{Simplex, TableauExcess};
 use mix_system::{Farkas, Numbers, Tally, Terms, Work};
 use std::alloc::Global;
@@ -76,7 +76,11 @@ impl Simplex<'_> {
         if let Some(farkas) = first_contradiction(alloc, &self.bounds)? {
             return Ok(Mended::Refuted(farkas));
         }
-        settle(&self.bounds, &mut self.values);
+        match look_at_rows(&self.bounds, &mut self.reaches) {
+            Ok(()) => {}
+            Err(beyond) => return self.beyond(alloc, beyond),
+        }
+        self.settle();
         self.mend(alloc)
     }
 

@@ -132,7 +132,7 @@ fn stays(bounds: &Bounds<'_>, values: &[i128], basic: u32, entry: Entry, upwards
 }
 
 // The side of the bound that hinders a column.
-fn hindering_side(upwards: bool, coeff: i128) -> Side
+pub(crate) fn hindering_side(upwards: bool, coeff: i128) -> Side
     ensures { result ≡ hindering upwards coeff }
 {
     if (coeff > 0) == upwards {

@@ -1,6 +1,7 @@
 //! The exact simplex over systems of bounded variables and rows.
 #![tactic(auto)]
 
+mod anew;
 mod bounds;
 mod broken;
 mod check;
@@ -13,6 +14,7 @@ mod listing;
 mod mended;
 mod mending;
 mod ratio;
+mod reach;
 mod refutation;
 mod settle;
 mod simplex;
@@ -27,6 +29,7 @@ pub use excess::{Place, TableauExcess};
 pub use laws::equations_cancel_out;
 pub use listing::Listing;
 pub use ratio::Ratio;
+pub use reach::Reach;
 pub use refutation::{contradiction, first_contradiction, refute};
 pub use simplex::Simplex;
 pub use sums::refute_sums;

@@ -7,14 +7,15 @@ ghost use Rattle.bounded_simplex.specs.Answer.{Mends};
 ghost use Rattle.bounded_simplex.specs.Broken.{IsBroken, side_of};
 ghost use Rattle.bounded_simplex.specs.Event.{IsFault, IsOfBounded};
 ghost use Rattle.bounded_simplex.specs.Point.{NoneContradict, AreInBounds};
+ghost use Rattle.bounded_simplex.specs.Reach.{HaveRoom};
 ghost use Rattle.bounded_simplex.specs.Refutation.{columns_of, IsHindered};
 
 use crate::broken::{Broken, first_broken};
 use crate::entering::entering;
 use crate::fault::Fault;
 use crate::mended::Mended;
-use crate::settle::{put_at_bound, settle};
-use crate::{PivotExcess, Place, Simplex, Tableau, refute};
+use crate::settle::put_at_bound;
+use crate::{PivotExcess, Place, Simplex, refute};
 use mix_system::Side;
 use std::alloc::Global;
 use wx_base::NoMemory;
@@ -24,6 +25,7 @@ impl Simplex<'_> {
     // from the first basis.
     pub(crate) fn mend(&mut self, alloc: Global) -> Result<Mended, NoMemory>
         requires apart { NoneContradict self.old.bounds }
+        requires room { HaveRoom self.old.bounds self.old.reaches.items }
         requires in_bounds { AreInBounds self.old.bounds self.old.values.items }
         requires none_made { self.old.made ≡ 0 }
         requires no_point { self.old.has_point ≡ false }
@@ -46,14 +48,16 @@ impl Simplex<'_> {
     // Makes the basis the rows again. The bounds and the count of pivots stay.
     fn start_anew(&mut self, alloc: Global) -> Result<(), NoMemory>
         requires apart { NoneContradict self.old.bounds }
+        requires room { HaveRoom self.old.bounds self.old.reaches.items }
         requires no_point { self.old.has_point ≡ false }
         ensures bounds { self.new.bounds ≡ self.old.bounds }
+        ensures reaches { self.new.reaches.items ≡ self.old.reaches.items }
         ensures made { self.new.made ≡ self.old.made }
         ensures no_point { self.new.has_point ≡ false }
         ensures in_bounds { OnOk result (AreInBounds self.new.bounds self.new.values.items) }
     {
-        self.tableau = Tableau::new(alloc, self.bounds.system())?;
-        settle(&self.bounds, &mut self.values);
+        self.first_basis(alloc)?;
+        self.settle();
         Ok(())
     }
 
@@ -62,19 +66,27 @@ impl Simplex<'_> {
     // that may be made it is always the least column of both, which can't.
     fn pivots(&mut self, alloc: Global) -> Result<Mended, NoMemory>
         requires in_bounds { AreInBounds self.old.bounds self.old.values.items }
+        requires room { HaveRoom self.old.bounds self.old.reaches.items }
         requires made { self.old.made ≤ pivot_bound self.old.bounds.system }
         requires no_point { self.old.has_point ≡ false }
         ensures bounds { self.new.bounds ≡ self.old.bounds }
         ensures answer { IfOk result
             (Mends self.new.bounds self.new.tableau.rows.items self.new.values.items
             self.new.made) }
+        ensures reaches { self.new.reaches.items ≡ self.old.reaches.items }
         ensures made { self.new.made ≤ pivot_bound self.new.bounds.system }
         ensures no_point { self.new.has_point ≡ false }
     {
         let most = 16 * u64::from(self.bounds.columns());
         loop {
             let late = self.made >= most / 4;
-            let broken = match first_broken(&self.bounds, &self.tableau.rows, &self.values, late) {
+            let broken = match first_broken(
+                &self.bounds,
+                &self.reaches,
+                &self.tableau.rows,
+                &self.values,
+                late,
+            ) {
                 Ok(Some(broken)) => broken,
                 Ok(None) => return Ok(Mended::Point),
                 Err(fault) => return Ok(Mended::Excess(fault)),
@@ -155,7 +167,9 @@ impl Simplex<'_> {
             → (slice_index_or self.old.tableau.rows.items broken.at d).basic ≢ column }
         requires no_point { self.old.has_point ≡ false }
         requires few_made { self.old.made + 1 < 2 ^ 64 }
+        requires room { HaveRoom self.old.bounds self.old.reaches.items }
         ensures bounds { self.new.bounds ≡ self.old.bounds }
+        ensures reaches { self.new.reaches.items ≡ self.old.reaches.items }
         ensures no_point { self.new.has_point ≡ false }
         ensures in_bounds { IfOk result
             (λ found. OnOk found (AreInBounds self.new.bounds self.new.values.items)) }

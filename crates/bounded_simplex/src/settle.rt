@@ -1,9 +1,10 @@
-ghost use Rattle.std.specs.Prelude.{◌≡◌, ◌<◌, ◌⊎◌, ◌≤ℤ◌, pos, length};
+ghost use Rattle.std.specs.Prelude.{◌≡◌, ◌<◌, ◌⊎◌, ◌≤ℤ◌, ℕ, pos, length};
+ghost use Rattle.mix_system.specs.Row.{number_at};
 ghost use Rattle.mix_system.specs.declared.literal.Side.TheVariants.{Le, Ge};
 ghost use Rattle.bounded_simplex.specs.InForce.{Contradict};
 ghost use Rattle.bounded_simplex.specs.Point.{Admits, NoneContradict, AreInBounds};
 ghost use Rattle.bounded_simplex.specs.Refutation.{columns_of, bound_on};
-ghost use Rattle.bounded_simplex.specs.Settled.{at_bound};
+ghost use Rattle.bounded_simplex.specs.Settled.{at_bound, IsMoved, StaysBetween};
 
 use crate::Bounds;
 
@@ -12,6 +13,9 @@ pub(crate) fn settle(bounds: &Bounds<'_>, values: &mut Vec<i128>)
     requires count { length values.old.items ≡ columns_of bounds.now.system }
     requires apart { NoneContradict bounds.now }
     ensures in_bounds { AreInBounds bounds.now values.new.items }
+    ensures kept { (column : ℕ) → column < length values.old.items
+        → StaysBetween bounds.now column (number_at values.old.items column)
+        (number_at values.new.items column) }
     ensures as_many { length values.new.items ≡ length values.old.items }
 {
     for column in 0..bounds.columns() {
@@ -26,6 +30,7 @@ fn nearest_in_bounds(bounds: &Bounds<'_>, column: u32, value: i128) -> i128
     requires apart { ¬ Contradict (bound_on bounds.now column Ge) (bound_on bounds.now column Le) }
     ensures low { Admits Ge (bound_on bounds.now column Ge) (pos 1) result }
     ensures high { Admits Le (bound_on bounds.now column Le) (pos 1) result }
+    ensures kept { StaysBetween bounds.now column value result }
 {
     let term = bounds.term_at(column);
     nearest(value, bounds.low(term), bounds.high(term))
@@ -36,6 +41,7 @@ fn nearest(value: i128, low: Option<i128>, high: Option<i128>) -> i128
     requires { ¬ Contradict low high }
     ensures low { Admits Ge low (pos 1) result }
     ensures high { Admits Le high (pos 1) result }
+    ensures kept { IsMoved low high value result }
 {
     match (low, high) {
         (None, None) => value,

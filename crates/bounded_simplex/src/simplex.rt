@@ -1,14 +1,17 @@
 ghost use Rattle.std.specs.Prelude.{◌≡◌, ◌≢◌, ◌↔◌, ℕ, ◌+◌, ◌<◌, ◌≤◌, ℤ, pos, true, false, [], ◌∷◌, ◌++◌, length, take, All, slice_index_or, Option, IfOk, IfErr, IfSome, IfNone, OnOk, OnErr};
+ghost use Rattle.mix_system.specs.Fits.{IsInRange};
 ghost use Rattle.mix_system.specs.Row.{number_at};
 ghost use Rattle.mix_system.specs.System.{Exists};
 ghost use Rattle.bounded_simplex.specs.InForce.{in_force, Contradict};
 ghost use Rattle.bounded_simplex.specs.Listing.{IsListed, ArePlaced};
 ghost use Rattle.bounded_simplex.specs.Refutation.{columns_of, bound_on};
 ghost use Rattle.tableau_rows.specs.declared.equation.Equation.{Equation as AnEquation};
+ghost use Rattle.bounded_simplex.specs.Reach.{AreReaches, AreInReach};
 ghost use Rattle.bounded_simplex.specs.Settled.{AreLow};
 ghost use Rattle.bounded_simplex.specs.TableauOf.{TableauOf, IsOfRow};
 
-use crate::{Bounds, Listing, Mark, Tableau};
+use crate::reach::unknown_reaches;
+use crate::{Bounds, Listing, Mark, Reach, Tableau};
 use mix_system::{Lit, Side, System, Term};
 use std::alloc::Global;
 use wx_base::NoMemory;
@@ -21,6 +24,8 @@ pub struct Simplex<'a> {
     pub bounds: Bounds<'a>,
     pub tableau: Tableau,
     pub values: Vec<i128>,
+    /// The sums of rows over the ranges, as far as they are known.
+    pub reaches: Vec<Reach>,
     /// Its basis and the values outside it, as they stood after the last check.
     pub listing: Listing,
     /// The pivots of the last check, 0 before the first.
@@ -28,6 +33,8 @@ pub struct Simplex<'a> {
     /// Whether the last check kept a point and no bound was put or given back since.
     pub has_point: bool,
     pub ghost tableau_of: { TableauOf bounds.system tableau.rows.items },
+    pub ghost in_reach: { AreInReach bounds.system tableau.rows.items values.items },
+    pub ghost reached: { AreReaches bounds.system reaches.items },
     pub ghost one_each: { length values.items ≡ columns_of bounds.system },
     pub ghost listed: { has_point ≡ true → IsListed bounds.system tableau.rows.items values.items
         listing.basis.items listing.rest.items },
@@ -56,12 +63,14 @@ impl<'a> Simplex<'a> {
         let bounds = Bounds::new(alloc, system, room)?;
         let tableau = Tableau::new(alloc, system)?;
         let values = first_values(alloc, system)?;
+        let reaches = unknown_reaches(alloc, system)?;
         let mut listing = Listing::new(alloc);
         listing.list(&bounds, &tableau.rows, &values)?;
         Ok(Simplex {
             bounds,
             tableau,
             values,
+            reaches,
             listing,
             made: 0,
             has_point: false,
@@ -96,6 +105,7 @@ impl<'a> Simplex<'a> {
             (in_force self.new.bounds lit.now.term Side.Le) }
         ensures tableau { self.new.tableau ≡ self.old.tableau }
         ensures values { self.new.values.items ≡ self.old.values.items }
+        ensures reaches { self.new.reaches.items ≡ self.old.reaches.items }
         ensures listing { self.new.listing ≡ self.old.listing }
         ensures made { self.new.made ≡ self.old.made }
         ensures no_point { self.new.has_point ≡ false }
@@ -119,6 +129,7 @@ impl<'a> Simplex<'a> {
             ≡ record self.old.bounds { changes = take mark.changes self.old.bounds.changes } }
         ensures tableau { self.new.tableau ≡ self.old.tableau }
         ensures values { self.new.values.items ≡ self.old.values.items }
+        ensures reaches { self.new.reaches.items ≡ self.old.reaches.items }
         ensures listing { self.new.listing ≡ self.old.listing }
         ensures made { self.new.made ≡ self.old.made }
         ensures no_point { self.new.has_point ≡ false }
@@ -164,6 +175,9 @@ impl<'a> Simplex<'a> {
 fn first_values(alloc: Global, system: &System) -> Result<Vec<i128>, NoMemory>
     ensures count { IfOk result (λ values. length values.items ≡ columns_of system.now) }
     ensures low { IfOk result (λ values. AreLow system.now values.items) }
+    ensures in_range { IfOk result (λ values. (var : ℕ) → var < length system.now.ranges
+        → IsInRange (slice_index_or system.now.ranges var (pos 0, pos 0))
+        (number_at values.items var)) }
 {
     let columns = system.vars() as usize + system.rows() as usize;
     let mut values = Vec::with_capacity(alloc, columns)?;

@@ -2,10 +2,12 @@
 //! The rows are the file `stdin`, and what they give, found by hand, is the file `stdout`.
 #![tactic(auto)]
 
+mod calm;
 mod copies;
 mod equations;
 mod literals;
 mod script;
+mod splits;
 mod systems;
 mod work;
 

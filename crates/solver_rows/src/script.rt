@@ -1,4 +1,5 @@
-use crate::literals::{lits_of, push};
+use crate::literals::lits_of;
+use crate::splits::{push_parts, solved, solved_kept};
 use crate::systems::{exists, no_call};
 use bounded_simplex::{Check, Mark, Simplex, TableauExcess};
 use mix_system::{Farkas, Lit, System, Tally};
@@ -6,9 +7,11 @@ use std::alloc::Global;
 use wx_base::NoMemory;
 use wx_num::Excess;
 
-// `check BUDGET ROOM WORD ..` over a simplex of the system, which lasts for the row. A literal is put to
-// the bounds, `?` is a check, `back2` gives all but the first two changes back and `back` all, `made` shows
-// the pivots of the last check, and `all` each column too: its bounds, and its value where there is a point.
+// `check BUDGET ROOM WORD ..` over a simplex of the system, which lasts for the row. A literal is
+// put to the bounds, `?` is a check, `back2` gives all but the first two changes back and `back`
+// all, `made` shows the pivots of the last check, and `all` each column too: its bounds, and its
+// value where there is a point. `solve` looks for a whole point, `kept` shows the tree that this
+// leaves too, and `units` what was counted.
 pub fn answer(alloc: Global, system: &System, call: &str) -> Result<String, NoMemory> {
     let (budget, rest) = call.split_once(' ').unwrap_or((call, ""));
     let (room, words) = rest.split_once(' ').unwrap_or((rest, ""));
@@ -35,6 +38,9 @@ fn step(
         "?" => checked(alloc, &simplex.check(alloc, tally)?),
         "all" => columns(alloc, simplex),
         "made" => Ok(format!(in alloc; "{} pivots; ", simplex.made)?),
+        "solve" => solved(alloc, simplex, tally),
+        "kept" => solved_kept(alloc, simplex, tally),
+        "units" => Ok(format!(in alloc; "{} checks, {} splits; ", tally.checks, tally.splits)?),
         _ => {
             if let Some(changes) = word.strip_prefix("back") {
                 return back(alloc, simplex, changes.parse::<u32>().unwrap_or(0));
@@ -76,10 +82,7 @@ fn exceeded(alloc: Global, excess: &TableauExcess) -> Result<String, NoMemory> {
 // Each bound with its multiplier.
 fn refuted(alloc: Global, farkas: &Farkas) -> Result<String, NoMemory> {
     let mut line = String::from_str(alloc, "refuted by")?;
-    for part in farkas.parts.items() {
-        line.push_str(format!(in alloc; " {}", part.by)?.as_str())?;
-        push(alloc, &mut line, &part.lit)?;
-    }
+    push_parts(alloc, &mut line, farkas)?;
     line.push_str("; ")?;
     Ok(line)
 }

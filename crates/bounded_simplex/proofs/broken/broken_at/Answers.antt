@@ -2,6 +2,7 @@ use Rattle.std.proofs.Common.{◌≡◌, pos, sym, ap, subst}
 use Rattle.tableau_rows.specs.declared.equation.Equation.{Equation}
 use Rattle.tableau_rows.specs.Substitution.{taken}
 use Rattle.bounded_simplex.specs.Event.{IsFormedAt}
+use Rattle.bounded_simplex.specs.Lax.{IsLax}
 use Rattle.bounded_simplex.specs.Point.{Keeps}
 use Rattle.bounded_simplex.specs.Refutation.{columns_of}
 use Rattle.bounded_simplex.proofs.PivotLaws.{read_at}
@@ -30,9 +31,11 @@ returns-in-Err-clause-formed c =
 pub returns-in-Ok-Some-clause-broken : goal.returns-in-Ok-Some-clause-broken
 returns-in-Ok-Some-clause-broken c =
     let breaks = rw c.in-Ok-Some.field-0-is at c.in-Ok-Some.ensures.some in
+    let tight = rw c.in-Ok-Some.field-0-is at c.in-Ok-Some.ensures.tight in
     let read = λ (d : Equation). read_at c.args.rows.now c.args.at c.index-rows-at.result d c.requires.at c.index-rows-at.is in
     record {
       within = c.requires.at;
       basic = λ d. ap (λ (x : Equation). x.basic) (read d);
       breaks = λ d. subst (λ (x : Equation). ¬ Keeps c.args.bounds.now c.args.values.now x c.in-Ok-Some.side) (read d) breaks;
+      tight = λ d. subst (λ (x : Equation). ¬ IsLax c.args.bounds.now x.basic c.in-Ok-Some.side) (read d) tight;
     }
