@@ -1,0 +1,2 @@
+mod BlocksLaws
+mod RunLaws
