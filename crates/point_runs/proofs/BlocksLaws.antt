@@ -30,10 +30,10 @@ use Rattle.path_encoding.specs.Spots.{no_block, block_at}
 use Rattle.path_encoding.specs.Agree.{Agrees, AllAgree, AgreesIn, AgreesOn, assume_parts, blocks_on}
 
 module _ (it : SoundFunc) (sound : IsSound it) where
-  label_is : (at : ℕ) → at < length it.flow.order → (block_at it at).label ≡ label_at it at
+  pub label_is : (at : ℕ) → at < length it.flow.order → (block_at it at).label ≡ label_at it at
   label_is at low = sym (get_or-map (λ (block : Block). block.label) it.func.blocks (place_at it at) no_block [] (place_within it sound at low))
 
-  block_there : (at : ℕ) → at < length it.flow.order → Contains it.func.blocks (block_at it at)
+  pub block_there : (at : ℕ) → at < length it.flow.order → Contains it.func.blocks (block_at it at)
   block_there at low = Contains-get_or it.func.blocks (place_at it at) no_block (place_within it sound at low)
 
   some_block : 0 < length it.flow.order

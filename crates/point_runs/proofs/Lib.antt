@@ -1,2 +1,2 @@
-mod BlocksLaws
+pub mod BlocksLaws
 mod RunLaws

@@ -1,0 +1,6 @@
+mod AgreeLaws
+mod EdgeLaws
+mod NameLaws
+mod OperandLaws
+mod PhiLaws
+mod TellLaws
