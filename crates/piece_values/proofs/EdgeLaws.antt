@@ -1,5 +1,5 @@
 -- Of the edges into a block that a path steps to, that from the block before it is 1, and no other.
-use Rattle.std.proofs.Common.{◌≡◌, ◌≢◌, ◌↔◌, ◌+◌, ◌<◌, ◌==◌, ◌⊎◌, inl, inr, ℕ, ℤ, pos, eqb, Bool, true, false, cond, List, [], ◌∷◌, map, refl, sym, ◌∙◌, ap, subst, arith}
+use Rattle.std.proofs.Common.{◌≡◌, ◌≢◌, ◌↔◌, ◌+◌, ◌<◌, ◌≤◌, ◌==◌, ◌⊎◌, inl, inr, ℕ, ℤ, pos, eqb, Bool, true, false, cond, List, [], ◌∷◌, map, refl, sym, ◌∙◌, ap, subst, arith}
 use Rattle.std.specs.Prelude.{Contains, filter}
 use Rattle.std.specs.Ordering.{int_eq}
 use Rattle.std.proofs.lemmas.Bool.{cond_both, eqb-true}
@@ -65,6 +65,22 @@ module _ (point : List ℤ) (into : VarEdge → Incoming) (same_edge : (edge : V
           let behind = rest (record { among = later; one = is.one; others = λ other there. is.others other (in_there first other edges there) }) in
           (rw here (omega (arith, behind.0)), rw here behind.1)
 
+  -- where those that are 1 are one, at most one is
+  pub most_one : (edges : List VarEdge) → AreApart edges → ((edge other : VarEdge) → Contains edges edge → Contains edges other → is_one edge ≡ true → is_one other ≡ true → edge ≡ other) → taken_count point (map into edges) ≤ 1
+  most_one [] apart same = omega arith
+  most_one (first ∷ edges) apart same = by_test (is_one first) refl (most_one edges apart.1 (λ edge other there other_there. same edge other (in_there first edge edges there) (in_there first other edges other_there)))
+    where
+      none : is_one first ≡ true → (edge : VarEdge) → Contains edges edge → is_one edge ≡ false
+      none one edge there = by_own (is_one edge) refl
+        where
+          by_own : (b : Bool) → is_one edge ≡ b → is_one edge ≡ false
+          by_own true own = absurd (apart.0 (subst (Contains edges) (sym (same first edge (in_here first edges) (in_there first edge edges there) one own)) there))
+          by_own false own = own
+
+      by_test : (b : Bool) → is_one first ≡ b → taken_count point (map into edges) ≤ 1 → taken_count point (map into (first ∷ edges)) ≤ 1
+      by_test true is rest = rw is (omega (arith, none_taken edges (none is)))
+      by_test false is rest = rw is (omega (arith, rest))
+
 -- ---- edges into a block
 
 module _ (it : SoundFunc) (sound : IsSound it) (spots : PathSpots) (are : AreSpotsOf it spots) (at : ℕ) where
@@ -76,26 +92,50 @@ module _ (it : SoundFunc) (sound : IsSound it) (spots : PathSpots) (are : AreSpo
       let test = λ (edge : VarEdge). edge.0.to.0 == at in
       (member_of test (edge_vars it spots) edge there, eqb-true edge.0.to.0 at (passes_of test (edge_vars it spots) edge there))
 
-  module _ (point : List ℤ) (path : List ℕ) (is : IsTaken it spots point path) (before : ℕ) (steps : Steps path before at) where
+  module _ (point : List ℤ) (path : List ℕ) (is : IsTaken it spots point path) where
     forward : (from to : ℕ) → HasEdge it.flow.edges from to → from < to
     forward from to there = (leads_on it sound spots are from to there).0
 
-    chain_facts : (path : List ℕ) → Steps path before at → (first : ℕ) × (rest : List ℕ) × (path ≡ first ∷ rest)
-    chain_facts [] steps = absurd steps
-    chain_facts (first ∷ rest) steps = (first, rest, refl)
+    chain_facts : (list : List ℕ) → path ≡ list → (first : ℕ) × (rest : List ℕ) × (path ≡ first ∷ rest)
+    chain_facts [] same = absurd (subst (IsPath it.flow.edges) same is.is_path)
+    chain_facts (first ∷ rest) same = (first, rest, same)
 
+    one_source : (before other : ℕ) → Steps path before at → Steps path other at → before ≡ other
+    one_source before other steps too =
+        let (first, rest, same) = chain_facts path refl in
+        one_from it.flow.edges forward first rest (subst (IsPath it.flow.edges) same is.is_path).1 before other at (subst (λ (l : List ℕ). Steps l before at) same steps) (subst (λ (l : List ℕ). Steps l other at) same too)
+
+    takes : (edge : VarEdge) → Contains (edge_vars it spots) edge → (number_at point edge.1 ≡ pos 1) ↔ Steps path edge.0.from.0 edge.0.to.0
+    takes edge there = All-contains (λ (e : VarEdge). (number_at point e.1 ≡ pos 1) ↔ Steps path e.0.from.0 e.0.to.0) (edge_vars it spots) edge is.taken there
+
+    position_same : (a b : PositionEdge) → a.from.0 ≡ b.from.0 → a.to.0 ≡ b.to.0 → a ≡ b
+    position_same a b from to = λ i. record { from = record { 0 = from i }; to = record { 0 = to i } }
+
+    -- an edge into the block that is 1 is stepped over
+    stepped : (edge : VarEdge) → Contains (edges_into it spots at) edge → number_at point edge.1 ≡ pos 1 → Steps path edge.0.from.0 at
+    stepped edge there one = let here = into_here edge there in subst (Steps path edge.0.from.0) here.1 ((takes edge here.0).0 one)
+
+    same_edge_of : (edge other : VarEdge) → Contains (edges_into it spots at) edge → Contains (edges_into it spots at) other → edge.0.from.0 ≡ other.0.from.0 → edge ≡ other
+    same_edge_of edge other there other_there from =
+        let here = into_here edge there in
+        let also = into_here other other_there in
+        single it sound spots are edge other here.0 also.0 (position_same edge.0 other.0 from (here.1 ∙ sym also.1))
+
+    pub at_most_one : (into : VarEdge → Incoming) → ((edge : VarEdge) → (into edge).edge ≡ edge.1) → taken_count point (map into (edges_into it spots at)) ≤ 1
+    at_most_one into same_var = most_one point into same_var (edges_into it spots at) into_apart same
+      where
+        is_1 : (edge : VarEdge) → int_eq (number_at point (into edge).edge) (pos 1) ≡ true → number_at point edge.1 ≡ pos 1
+        is_1 edge one = ap (number_at point) (sym (same_var edge)) ∙ (Decides-int_eq (number_at point (into edge).edge) (pos 1)).0 one
+
+        same : (edge other : VarEdge) → Contains (edges_into it spots at) edge → Contains (edges_into it spots at) other → int_eq (number_at point (into edge).edge) (pos 1) ≡ true → int_eq (number_at point (into other).edge) (pos 1) ≡ true → edge ≡ other
+        same edge other there other_there one too =
+            same_edge_of edge other there other_there (one_source edge.0.from.0 other.0.from.0 (stepped edge there (is_1 edge one)) (stepped other other_there (is_1 other too)))
+
+  module _ (point : List ℤ) (path : List ℕ) (is : IsTaken it spots point path) (before : ℕ) (steps : Steps path before at) where
     has_step : HasEdge it.flow.edges before at
     has_step =
-        let (first, rest, same) = chain_facts path steps in
-        step_has it.flow.edges forward first rest (chain first rest same) before at (subst (λ (l : List ℕ). Steps l before at) same steps)
-      where
-        chain : (first : ℕ) (rest : List ℕ) → path ≡ first ∷ rest → IsChain it.flow.edges first rest
-        chain first rest same = (subst (IsPath it.flow.edges) same is.is_path).1
-
-    one_before : (other : ℕ) → Steps path other at → other ≡ before
-    one_before other too =
-        let (first, rest, same) = chain_facts path steps in
-        one_from it.flow.edges forward first rest (subst (IsPath it.flow.edges) same is.is_path).1 other before at (subst (λ (l : List ℕ). Steps l other at) same too) (subst (λ (l : List ℕ). Steps l before at) same steps)
+        let (first, rest, same) = chain_facts point path is path refl in
+        step_has it.flow.edges (forward point path is) first rest (subst (IsPath it.flow.edges) same is.is_path).1 before at (subst (λ (l : List ℕ). Steps l before at) same steps)
 
     -- the edge that is taken
     pub taken_edge : (edge : VarEdge) × Contains (edges_into it spots at) edge × (edge.0.from.0 ≡ before)
@@ -104,22 +144,17 @@ module _ (it : SoundFunc) (sound : IsSound it) (spots : PathSpots) (are : AreSpo
         let edge : VarEdge = (position_edge (record { from = before; to = at }), found.0) in
         (edge, kept (λ (edge : VarEdge). edge.0.to.0 == at) (edge_vars it spots) edge found.1 ((Decides-eqb at at).1 refl), refl)
 
-    takes : (edge : VarEdge) → Contains (edge_vars it spots) edge → (number_at point edge.1 ≡ pos 1) ↔ Steps path edge.0.from.0 edge.0.to.0
-    takes edge there = All-contains (λ (e : VarEdge). (number_at point e.1 ≡ pos 1) ↔ Steps path e.0.from.0 e.0.to.0) (edge_vars it spots) edge is.taken there
-
-    pub one_edge : (into : VarEdge → Incoming) (same_edge : (edge : VarEdge) → (into edge).edge ≡ edge.1) → IsOne point into same_edge (edges_into it spots at) taken_edge.0
-    one_edge into same_edge =
+    pub one_edge : (into : VarEdge → Incoming) (same_var : (edge : VarEdge) → (into edge).edge ≡ edge.1) → IsOne point into same_var (edges_into it spots at) taken_edge.0
+    one_edge into same_var =
         let (edge, among, from) = taken_edge in
         let here = into_here edge among in
         record {
           among = among;
-          one = ap (λ (var : ℕ). int_eq (number_at point var) (pos 1)) (same_edge edge) ∙ int_one (number_at point edge.1) ((takes edge here.0).1 (subst (λ (n : ℕ). Steps path n edge.0.to.0) (sym from) (subst (Steps path before) (sym here.1) steps)));
+          one = ap (λ (var : ℕ). int_eq (number_at point var) (pos 1)) (same_var edge) ∙ int_one (number_at point edge.1) ((takes point path is edge here.0).1 (subst (λ (n : ℕ). Steps path n edge.0.to.0) (sym from) (subst (Steps path before) (sym here.1) steps)));
           others = λ other there differs.
-              let mine = into_here other there in
               not_one (number_at point (into other).edge) (λ one.
-              let step : Steps path other.0.from.0 at = subst (Steps path other.0.from.0) mine.1 ((takes other mine.0).0 (ap (number_at point) (sym (same_edge other)) ∙ one)) in
-              let same : other.0 ≡ edge.0 = position_same other.0 edge.0 (one_before other.0.from.0 step ∙ sym from) (mine.1 ∙ sym here.1) in
-              differs (single it sound spots are other edge mine.0 here.0 same));
+              let step = stepped point path is other there (ap (number_at point) (sym (same_var other)) ∙ one) in
+              differs (same_edge_of point path is other edge there among (one_source point path is other.0.from.0 before step steps ∙ sym from)));
         }
       where
         not_one : (z : ℤ) → (z ≡ pos 1 → ⊥) → int_eq z (pos 1) ≡ false
@@ -128,6 +163,3 @@ module _ (it : SoundFunc) (sound : IsSound it) (spots : PathSpots) (are : AreSpo
             by_test : (b : Bool) → int_eq z (pos 1) ≡ b → int_eq z (pos 1) ≡ false
             by_test true same = absurd (never ((Decides-int_eq z (pos 1)).0 same))
             by_test false differs = differs
-
-        position_same : (a b : PositionEdge) → a.from.0 ≡ b.from.0 → a.to.0 ≡ b.to.0 → a ≡ b
-        position_same a b from to = λ i. record { from = record { 0 = from i }; to = record { 0 = to i } }

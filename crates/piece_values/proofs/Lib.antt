@@ -2,5 +2,6 @@ mod AgreeLaws
 mod EdgeLaws
 mod NameLaws
 mod OperandLaws
+mod OrderLaws
 mod PhiLaws
 mod TellLaws

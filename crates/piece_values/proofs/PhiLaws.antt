@@ -1,5 +1,5 @@
 -- A phi's piece says the operand for the block before.
-use Rattle.std.proofs.Common.{◌≡◌, ◌<◌, ℕ, ℤ, pos, List, [], ◌∷◌, ◌++◌, length, map, Option, Some, None, option_and_then, refl, sym, ◌∙◌, ap, subst}
+use Rattle.std.proofs.Common.{◌≡◌, ◌<◌, ◌≤◌, ℕ, ℤ, pos, List, [], ◌∷◌, ◌++◌, length, map, Option, Some, None, option_and_then, refl, sym, ◌∙◌, ap, subst}
 use Rattle.std.specs.Prelude.{Contains, All, unsigned_abs}
 use Rattle.std.specs.Option.{unwrap_or}
 use Rattle.std.proofs.lemmas.List.Elements.{All-contains, All-contains_itself, All-map, All-weaker, Contains-append_left}
@@ -10,7 +10,7 @@ use Rattle.ll_tree.specs.declared.block.Phi.{Phi}
 use Rattle.ll_tree.specs.declared.block.PhiEntry.{PhiEntry}
 use Rattle.ll_tree.specs.declared.block.Operand.{Operand}
 use Rattle.ll_tree.specs.declared.block.Operand.TheVariants as operand
-use Rattle.ll_rules.specs.Items.{OfPhi, OfInstr, OfEnd, items_of, parts_of, Use, Goal}
+use Rattle.ll_rules.specs.Items.{OfPhi, OfInstr, OfEnd, items_of}
 use Rattle.flow_graph.specs.Paths.{HasEdge}
 use Rattle.ll_flow.specs.Paths.{GoesTo}
 use Rattle.ll_flow.proofs.PlaceLaws.{goes}
@@ -27,11 +27,12 @@ use Rattle.ir_constants.specs.Counted.{entries_of}
 use Rattle.path_values.specs.Way.{told}
 use Rattle.portion_cuts.specs.Paths.{place_at, label_at}
 use Rattle.wrap_rows.specs.declared.phi.Phi.{Phi as PhiPiece}
-use Rattle.wrap_rows.specs.Phi.{taken_count, taken_value, IsIncoming, CanSay}
+use Rattle.wrap_rows.specs.declared.phi.Incoming.{Incoming}
+use Rattle.wrap_rows.specs.Phi.{taken_count, taken_value, IsIncoming, CanFill, CanSay}
 use Rattle.wrap_rows.specs.declared.vars.ValueVars.{ValueVars}
 use Rattle.wrap_rows.specs.Vars.{IsMark, IsValue, is_marked, value_at}
 use Rattle.bit_rows.specs.Bitwise.{IsLiteral}
-use Rattle.ir_pieces.specs.Choice.{literal_of, given_value, IsOperand}
+use Rattle.ir_pieces.specs.Choice.{literal_of, given_value, AreNumbers, IsOperand}
 use Rattle.path_encoding.specs.declared.spots.PathSpots.{PathSpots}
 use Rattle.path_encoding.specs.Spots.{operand_vars, block_at, AreSpotsOf}
 use Rattle.path_encoding.specs.Paths.{Steps, IsTaken, AreMarks}
@@ -39,17 +40,19 @@ use Rattle.path_encoding.proofs.MemberLaws.{second_in}
 use Rattle.path_encoding.proofs.GraphLaws.{edge_of}
 use Rattle.point_runs.proofs.BlocksLaws.{label_is, block_there}
 use Rattle.point_runs.specs.Told.{told_at}
-use Rattle.piece_values.specs.Pieces.{operand_of, incoming_of, edges_into}
-use Rattle.piece_values.specs.Known.{AreKnown}
-use Rattle.piece_values.proofs.NameLaws.{name_given}
+use Rattle.piece_values.specs.Pieces.{operand_of, name_vars, incoming_of, edges_into}
+use Rattle.piece_values.specs.Known.{IsConst}
 use Rattle.piece_values.proofs.OperandLaws.{is_operand, operand_said, read_of}
-use Rattle.piece_values.proofs.EdgeLaws.{into_here, into_apart, taken_edge, one_edge, one_taken}
+use Rattle.piece_values.proofs.EdgeLaws.{into_here, into_apart, at_most_one, taken_edge, one_edge, one_taken}
 
-module _ (it : SoundFunc) (sound : IsSound it) (spots : PathSpots) (are : AreSpotsOf it spots) (point : List ℤ) (known : AreKnown it spots point) where
+module _ (it : SoundFunc) (sound : IsSound it) (spots : PathSpots) (are : AreSpotsOf it spots) (point : List ℤ) (numbers : AreNumbers point) where
   abbrev said : Vals
   said = told (told_at it spots point)
 
-  module _ (at : ℕ) (low : at < length it.flow.order) (phi : Phi) (inside : Contains (block_at it at).phis phi) where
+  -- a phi of the block at a position whose entries' names are values, and whose constants stand at their variables
+  module _ (at : ℕ) (low : at < length it.flow.order) (phi : Phi) (inside : Contains (block_at it at).phis phi)
+      (named : (from : ℕ) → HasEdge it.flow.edges from at → (entry : PhiEntry) → Contains phi.entries entry → entry.from ≡ label_at it from → (name : List ℕ) → entry.value ≡ operand.Name name → IsValue phi.width (name_vars it spots name) point)
+      (consts : (n : ℕ) → Contains (entries_of phi) (operand.Const n) → IsConst it spots point n) where
     abbrev block : Block
     block = block_at it at
 
@@ -67,14 +70,13 @@ module _ (it : SoundFunc) (sound : IsSound it) (spots : PathSpots) (are : AreSpo
     abbrev value_of_entry : PhiEntry → Operand
     value_of_entry entry = entry.value
 
-    -- an entry's operand is a value of the phi's width
-    entry_is : (entry : PhiEntry) → Contains phi.entries entry → IsOperand phi.width (operand_of it spots entry.value) point
-    entry_is entry among =
-        let used : Contains (parts_of (OfPhi phi)) (Use entry.value phi.width) = in_flat (λ (entry : PhiEntry). Use entry.value phi.width ∷ Goal entry.from ∷ []) phi.entries entry (Use entry.value phi.width) among (in_here (Use entry.value phi.width) (Goal entry.from ∷ [])) in
-        is_operand it spots point known.numbers phi.width entry.value
+    -- an entry's operand for an edge is a value of the phi's width
+    entry_is : (from : ℕ) → HasEdge it.flow.edges from at → (entry : PhiEntry) → Contains phi.entries entry → entry.from ≡ label_at it from → IsOperand phi.width (operand_of it spots entry.value) point
+    entry_is from edge entry among comes_from =
+        is_operand it spots point numbers phi.width entry.value
         (All-contains (λ (e : PhiEntry). FitsOperand phi.width e.value) phi.entries entry formed.2 among)
-        (λ name is. known.values name phi.width (name_given it.func sound.rules block there (OfPhi phi) item_inside name phi.width (subst (λ (o : Operand). Contains (parts_of (OfPhi phi)) (Use o phi.width)) is used)))
-        (λ n is. known.entries block there phi inside n (subst (Contains (entries_of phi)) is (in_map value_of_entry phi.entries entry among)))
+        (named from edge entry among comes_from)
+        (λ n is. consts n (subst (Contains (entries_of phi)) is (in_map value_of_entry phi.entries entry among)))
 
     -- the entry for the block at a position from which an edge comes
     entry_from : (from : ℕ) → HasEdge it.flow.edges from at → (entry : PhiEntry) × Contains phi.entries entry × (entry.from ≡ label_at it from) × (operand_for (label_at it from) phi ≡ Some entry.value)
@@ -87,8 +89,9 @@ module _ (it : SoundFunc) (sound : IsSound it) (spots : PathSpots) (are : AreSpo
     incoming_is : AreMarks spots point → (edge : PositionEdge × ℕ) → Contains (edges_into it spots at) edge → IsIncoming phi.width point (incoming_of it spots phi edge)
     incoming_is marks edge among =
         let here = into_here it sound spots are at edge among in
-        let entry = entry_from edge.0.from.0 (subst (HasEdge it.flow.edges edge.0.from.0) here.1 (edge_of it sound spots are edge here.0)) in
-        let value : IsValue phi.width (operand_vars it spots entry.0.value) point = (entry_is entry.0 entry.1).value in
+        let has : HasEdge it.flow.edges edge.0.from.0 at = subst (HasEdge it.flow.edges edge.0.from.0) here.1 (edge_of it sound spots are edge here.0) in
+        let entry = entry_from edge.0.from.0 has in
+        let value : IsValue phi.width (operand_vars it spots entry.0.value) point = (entry_is edge.0.from.0 has entry.0 entry.1 entry.2).value in
         record {
           edge = All-contains (λ (var : ℕ). IsMark (number_at point var)) spots.edges.items edge.1 marks.edges (second_in (map position_edge it.flow.edges) spots.edges.items edge here.0);
           value = subst (λ (o : Option Operand). IsValue phi.width (operand_vars it spots (unwrap_or o operand.Poison)) point) (sym entry.3) value;
@@ -100,6 +103,12 @@ module _ (it : SoundFunc) (sound : IsSound it) (spots : PathSpots) (are : AreSpo
           subst (λ (w : ℕ). All (IsIncoming w point) of.incoming.items) (sym width)
           (subst (All (IsIncoming phi.width point)) (sym incoming) (All-map (IsIncoming phi.width point) (incoming_of it spots phi) (edges_into it spots at)
           (All-weaker (Contains (edges_into it spots at)) (λ edge. IsIncoming phi.width point (incoming_of it spots phi edge)) (incoming_is marks) (edges_into it spots at) (All-contains_itself (edges_into it spots at)))))
+
+      pub can_fill : (path : List ℕ) → IsTaken it spots point path → CanFill of point
+      can_fill path is = record {
+        incoming = all_incoming;
+        at_most_one = subst (λ (l : List Incoming). taken_count point l ≤ 1) (sym incoming) (at_most_one it sound spots are at point path is (incoming_of it spots phi) (λ edge. refl));
+      }
 
       module _ (path : List ℕ) (is : IsTaken it spots point path) (before : ℕ) (steps : Steps path before at) where
         one : (taken_count point (map (incoming_of it spots phi) (edges_into it spots at)) ≡ 1) × (taken_value point (map (incoming_of it spots phi) (edges_into it spots at)) ≡ value_at (incoming_of it spots phi (taken_edge it sound spots are at point path is before steps).0).value point)
@@ -122,7 +131,7 @@ module _ (it : SoundFunc) (sound : IsSound it) (spots : PathSpots) (are : AreSpo
             let taken : taken_value point of.incoming.items ≡ value_at (operand_vars it spots (unwrap_or (operand_for (label_at it before) phi) operand.Poison)) point =
                 ap (taken_value point) incoming ∙ one.1 ∙ ap (λ (n : ℕ). value_at (operand_vars it spots (unwrap_or (operand_for (label_at it n) phi) operand.Poison)) point) edge.2 in
             let read : value_at (operand_vars it spots entry.0.value) point ≡ given_value (literal_of entry.0.value) (operand_vars it spots entry.0.value) point =
-                read_of point (literal_of entry.0.value) (operand_vars it spots entry.0.value) (entry_is entry.0 entry.1).literal in
+                read_of point (literal_of entry.0.value) (operand_vars it spots entry.0.value) (entry_is before has entry.0 entry.1 entry.2).literal in
             ap (option_and_then (operand_value said)) entry.3
-            ∙ operand_said it spots point known.numbers entry.0.value
+            ∙ operand_said it spots point numbers entry.0.value
             ∙ ap Some (sym read ∙ sym (ap (λ (o : Option Operand). value_at (operand_vars it spots (unwrap_or o operand.Poison)) point) entry.3) ∙ sym taken)

@@ -12,7 +12,12 @@ use Rattle.ll_tree.specs.declared.func.Param.{Param}
 use Rattle.ll_tree.specs.declared.block.Block.{Block}
 use Rattle.ll_tree.specs.declared.block.Phi.{Phi}
 use Rattle.ll_tree.specs.declared.block.Instr.{Instr}
-use Rattle.ll_rules.specs.Items.{Item, OfPhi, OfInstr, OfEnd, items_of, result_width, values_of}
+use Rattle.ll_tree.specs.declared.block.PhiEntry.{PhiEntry}
+use Rattle.ll_tree.specs.declared.block.Operand.{Operand}
+use Rattle.ll_tree.specs.declared.block.Operand.TheVariants as operand
+use Rattle.flow_graph.specs.Paths.{HasEdge}
+use Rattle.ir_constants.specs.Counted.{entries_of}
+use Rattle.ll_rules.specs.Items.{Item, OfPhi, OfInstr, OfEnd, items_of, parts_of, Use, Goal, result_width, values_of}
 use Rattle.ll_rules.specs.Arithmetic.{is_linear}
 use Rattle.name_table.specs.Names.{AreDifferent, place_of}
 use Rattle.ll_flow.specs.Paths.{label_of}
@@ -23,7 +28,7 @@ use Rattle.ll_verifier.specs.Sound.{SoundFunc, IsSound}
 use Rattle.ir_meaning.specs.declared.value.Val.{Val}
 use Rattle.ir_runs.specs.Values.{Vals, ranged, op_value, phi_value}
 use Rattle.ir_runs.specs.Walk.{IsValued, AreValued, IsGiven as IsGivenTo, block_names}
-use Rattle.ir_runs.proofs.MemberLaws.{in_here, in_there, in_map}
+use Rattle.ir_runs.proofs.MemberLaws.{in_here, in_there, in_map, in_flat}
 use Rattle.ir_runs.proofs.NamesLaws.{value_name, param_names}
 use Rattle.ir_runs.proofs.WidthLaws.{values_named, without_labels}
 use Rattle.ir_runs.proofs.EntryLaws.{not_entry}
@@ -33,7 +38,7 @@ use Rattle.portion_cuts.specs.Paths.{label_at, IsPath}
 use Rattle.wrap_rows.specs.declared.vars.ValueVars.{ValueVars}
 use Rattle.wrap_rows.specs.Layout.{Holds}
 use Rattle.wrap_rows.specs.Piece.{AreIn}
-use Rattle.wrap_rows.specs.Vars.{value_at}
+use Rattle.wrap_rows.specs.Vars.{IsValue, value_at}
 use Rattle.wrap_rows.specs.Phi.{taken_value}
 use Rattle.ir_pieces.specs.declared.piece.IrPiece.{IrPiece}
 use Rattle.ir_pieces.specs.declared.piece.IrPiece.TheVariants as kind
@@ -50,7 +55,7 @@ use Rattle.path_encoding.specs.Agree.{IsGiven, AgreesWith, blocks_on}
 use Rattle.point_runs.specs.Told.{told_at}
 use Rattle.point_runs.proofs.BlocksLaws.{path_low, label_is, block_there, begins}
 use Rattle.piece_values.specs.Pieces.{operands_of, name_vars, IsPhiPiece, Has, HasPieces}
-use Rattle.piece_values.specs.Known.{AreKnown}
+use Rattle.piece_values.specs.Known.{IsConst, AreKnown}
 use Rattle.piece_values.proofs.NameLaws.{name_given, item_linear}
 use Rattle.piece_values.proofs.OperandLaws.{are_operands, are_given, op_said}
 use Rattle.piece_values.proofs.PhiLaws.{can_say, phi_said}
@@ -137,6 +142,21 @@ module _ (it : SoundFunc) (sound : IsSound it) (spots : PathSpots) (are : AreSpo
       all_front (IsValued said before) OfPhi block.phis (map OfInstr block.body ++ OfEnd block.end ∷ []) phis
       (all_front (IsValued said before) OfInstr block.body (OfEnd block.end ∷ []) (instr_valued block there before) (tt, tt))
 
+  -- ---- phis
+
+  module _ (at : ℕ) (low : at < length it.flow.order) (phi : Phi) (inside : Contains (block_at it at).phis phi) where
+    abbrev phi_block : Block
+    phi_block = block_at it at
+
+    entries_named : (from : ℕ) → HasEdge it.flow.edges from at → (entry : PhiEntry) → Contains phi.entries entry → entry.from ≡ label_at it from → (name : List ℕ) → entry.value ≡ operand.Name name → IsValue phi.width (name_vars it spots name) point
+    entries_named from edge entry among comes_from name is =
+        let used : Contains (parts_of (OfPhi phi)) (Use entry.value phi.width) = in_flat (λ (entry : PhiEntry). Use entry.value phi.width ∷ Goal entry.from ∷ []) phi.entries entry (Use entry.value phi.width) among (in_here (Use entry.value phi.width) (Goal entry.from ∷ [])) in
+        let item : Contains (items_of phi_block) (OfPhi phi) = Contains-append_left (map OfPhi phi_block.phis) (map OfInstr phi_block.body ++ OfEnd phi_block.end ∷ []) (OfPhi phi) (in_map OfPhi phi_block.phis phi inside) in
+        known.values name phi.width (name_given it.func sound.rules phi_block (block_there it sound at low) (OfPhi phi) item name phi.width (subst (λ (o : Operand). Contains (parts_of (OfPhi phi)) (Use o phi.width)) is used))
+
+    entries_const : (n : ℕ) → Contains (entries_of phi) (operand.Const n) → IsConst it spots point n
+    entries_const = known.entries phi_block (block_there it sound at low) phi inside
+
   -- ---- along a path
 
   module _ (path : List ℕ) (is : IsTaken it spots point path) where
@@ -144,10 +164,10 @@ module _ (it : SoundFunc) (sound : IsSound it) (spots : PathSpots) (are : AreSpo
     phi_valued before at low steps phi inside =
         let piece = pieces.phis at low phi inside in
         let of = piece.piece in
-        let can : CanSay (kind.Phi of.of) point = can_say it sound spots are point known at low phi inside of.of of.width of.incoming marks path is before steps in
+        let can : CanSay (kind.Phi of.of) point = can_say it sound spots are point known.numbers at low phi inside (entries_named at low phi inside) (entries_const at low phi inside) of.of of.width of.incoming marks path is before steps in
         told_by phi.name piece.one piece.among piece.stands (subst (λ (p : IrPiece). CanSay p point) (sym of.is) can)
         ∙ ap (λ (p : IrPiece). Some (meaning p point)) of.is
-        ∙ sym (phi_said it sound spots are point known at low phi inside of.of of.width of.incoming marks path is before steps)
+        ∙ sym (phi_said it sound spots are point known.numbers at low phi inside (entries_named at low phi inside) (entries_const at low phi inside) of.of of.width of.incoming marks path is before steps)
 
     low_on : (at : ℕ) → Contains path at → at < length it.flow.order
     low_on = path_low it sound path is.is_path

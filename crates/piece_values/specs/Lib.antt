@@ -1,2 +1,4 @@
-pub mod Pieces
 pub mod Known
+pub mod Owners
+pub mod Pieces
+pub mod Ready

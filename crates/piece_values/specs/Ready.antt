@@ -1,0 +1,27 @@
+-- What is known of a point before its pieces are filled in.
+use Rattle.std.specs.Prelude.{◌≡◌, ◌<◌, ◌≤◌, ℕ, ℤ, List, length, map, Contains, None}
+use Rattle.mix_system.specs.Row.{number_at}
+use Rattle.ll_tree.specs.declared.func.Param.{Param}
+use Rattle.ll_tree.specs.declared.block.Block.{Block}
+use Rattle.ll_tree.specs.declared.block.Instr.{Instr}
+use Rattle.ll_tree.specs.declared.block.Phi.{Phi}
+use Rattle.ll_tree.specs.declared.block.Operand.TheVariants as operand
+use Rattle.ll_verifier.specs.Sound.{SoundFunc}
+use Rattle.wrap_rows.specs.Phi.{taken_count}
+use Rattle.wrap_rows.specs.Vars.{IsNumber, IsMark, IsValue}
+use Rattle.ir_constants.specs.Counted.{counted, entries_of}
+use Rattle.ir_pieces.specs.Choice.{AreNumbers}
+use Rattle.path_encoding.specs.declared.spots.PathSpots.{PathSpots}
+use Rattle.path_encoding.specs.Paths.{AreMarks, IsTaken}
+use Rattle.piece_values.specs.Pieces.{name_vars}
+use Rattle.piece_values.specs.Known.{IsConst}
+
+-- The numbers 0 and 1, the counted constants, the arguments' numbers, with no mark where a parameter has no range, and a path that is taken.
+pub record IsReady (it : SoundFunc) (spots : PathSpots) (path : List ℕ) (point : List ℤ) : Type 0 where
+  pub numbers : AreNumbers point
+  pub constants : (block : Block) → Contains it.func.blocks block → (instr : Instr) → Contains block.body instr → (n : ℕ) → Contains (counted instr.op) (operand.Const n) → IsConst it spots point n
+  pub entries : (block : Block) → Contains it.func.blocks block → (phi : Phi) → Contains block.phis phi → (n : ℕ) → Contains (entries_of phi) (operand.Const n) → IsConst it spots point n
+  pub arguments : (param : Param) → Contains it.func.params param → IsNumber param.width (number_at point (name_vars it spots param.name).number)
+  pub unranged : (param : Param) → Contains it.func.params param → param.range ≡ None → IsMark (number_at point (name_vars it spots param.name).mark)
+  pub marks : AreMarks spots point
+  pub taken : IsTaken it spots point path
