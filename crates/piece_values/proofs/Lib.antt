@@ -3,5 +3,7 @@ mod EdgeLaws
 mod NameLaws
 mod OperandLaws
 mod OrderLaws
+mod OwnerLaws
 mod PhiLaws
+mod RangeLaws
 mod TellLaws

@@ -52,7 +52,7 @@ module _ (it : SoundFunc) (sound : IsSound it) where
     pub low : position < count
     pub is : block ≡ block_at it position
 
-  block_is : (block : Block) → Contains it.func.blocks block → (at : ℕ) → at < count → label_at it at ≡ block.label → block ≡ block_at it at
+  pub block_is : (block : Block) → Contains it.func.blocks block → (at : ℕ) → at < count → label_at it at ≡ block.label → block ≡ block_at it at
   block_is block there at low same = same_block it.func sound.rules.names block (block_at it at) there (block_there it sound at low) (sym same ∙ sym (label_is it sound at low))
 
   -- blocks from one position to another, the last left out
