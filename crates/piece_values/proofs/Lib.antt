@@ -6,4 +6,6 @@ mod OrderLaws
 mod OwnerLaws
 mod PhiLaws
 mod RangeLaws
+mod ReadyLaws
+mod ReadyListLaws
 mod TellLaws

@@ -168,8 +168,7 @@ module _ (it : SoundFunc) (spots : PathSpots) (point : List ℤ) (numbers : AreN
       among (arg ∷ []) from arg formed.2 (named_in (Use arg from ∷ []) from arg (in_here (Use arg from) []) named) (in_here arg []) consts
   are_operands (Select width test first second) formed linear named consts =
       let parts = Use test 1 ∷ Use first width ∷ Use second width ∷ [] in
-      let all = test ∷ first ∷ second ∷ [] in
-      (
+      let all = test ∷ first ∷ second ∷ [] in (
         among all 1 test formed.1 (named_in parts 1 test (in_here (Use test 1) (Use first width ∷ Use second width ∷ [])) named) (in_here test (first ∷ second ∷ [])) consts,
         among all width first formed.2 (named_in parts width first (in_there (Use test 1) (Use first width) (Use first width ∷ Use second width ∷ []) (in_here (Use first width) (Use second width ∷ []))) named) (in_there test first (first ∷ second ∷ []) (in_here first (second ∷ []))) consts,
         among all width second formed.3 (named_in parts width second (in_there (Use test 1) (Use second width) (Use first width ∷ Use second width ∷ []) (in_there (Use first width) (Use second width) (Use second width ∷ []) (in_here (Use second width) []))) named) (in_there test second (first ∷ second ∷ []) (in_there first second (second ∷ []) (in_here second []))) consts,

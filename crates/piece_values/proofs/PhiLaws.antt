@@ -129,9 +129,9 @@ module _ (it : SoundFunc) (sound : IsSound it) (spots : PathSpots) (are : AreSpo
             let has : HasEdge it.flow.edges before at = subst (λ (n : ℕ). HasEdge it.flow.edges n at) edge.2 (subst (HasEdge it.flow.edges edge.0.0.from.0) here.1 (edge_of it sound spots are edge.0 here.0)) in
             let entry = entry_from before has in
             let taken : taken_value point of.incoming.items ≡ value_at (operand_vars it spots (unwrap_or (operand_for (label_at it before) phi) operand.Poison)) point =
-                ap (taken_value point) incoming ∙ one.1 ∙ ap (λ (n : ℕ). value_at (operand_vars it spots (unwrap_or (operand_for (label_at it n) phi) operand.Poison)) point) edge.2 in
+            ap (taken_value point) incoming ∙ one.1 ∙ ap (λ (n : ℕ). value_at (operand_vars it spots (unwrap_or (operand_for (label_at it n) phi) operand.Poison)) point) edge.2 in
             let read : value_at (operand_vars it spots entry.0.value) point ≡ given_value (literal_of entry.0.value) (operand_vars it spots entry.0.value) point =
-                read_of point (literal_of entry.0.value) (operand_vars it spots entry.0.value) (entry_is before has entry.0 entry.1 entry.2).literal in
+            read_of point (literal_of entry.0.value) (operand_vars it spots entry.0.value) (entry_is before has entry.0 entry.1 entry.2).literal in
             ap (option_and_then (operand_value said)) entry.3
             ∙ operand_said it spots point numbers entry.0.value
             ∙ ap Some (sym read ∙ sym (ap (λ (o : Option Operand). value_at (operand_vars it spots (unwrap_or o operand.Poison)) point) entry.3) ∙ sym taken)

@@ -29,7 +29,7 @@ use Rattle.ir_pieces.specs.Choice.{constant_of, operand_at, scaled_piece, produc
 abbrev own_vars : ℕ → ValueVars
 own_vars first = record { number = first; mark = first + 1 }
 
-value_in : (width first : ℕ) (point : List ℤ) → IsInRange (pos 0, pos (2 ^ width - 1)) (number_at point first) → IsInRange (pos 0, pos 1) (number_at point (first + 1)) → IsValue width (own_vars first) point
+pub value_in : (width first : ℕ) (point : List ℤ) → IsInRange (pos 0, pos (2 ^ width - 1)) (number_at point first) → IsInRange (pos 0, pos 1) (number_at point (first + 1)) → IsValue width (own_vars first) point
 value_in width first point number mark =
     let some : 0 < 2 ^ width = omega (arith, pow_pos width) in
     record {

@@ -177,10 +177,9 @@ module _ (it : SoundFunc) (sound : IsSound it) (spots : PathSpots) (are : AreSpo
     along before [] low steps lows = tt
     along before (at ∷ rest) low steps lows =
         let here : at < length it.flow.order = lows at (in_here at rest) in
-        let label : (block_at it before).label ≡ label_at it before = label_is it sound before low in
-        (
+        let label : (block_at it before).label ≡ label_at it before = label_is it sound before low in (
           block_valued (block_at it at) (block_there it sound at here) (Some (block_at it before).label)
-          (λ phi inside. phi_valued before at here (steps before at (inl (refl, refl))) phi inside ∙ ap (λ (l : List ℕ). phi_value said (Some l) phi) (sym label)),
+              (λ phi inside. phi_valued before at here (steps before at (inl (refl, refl))) phi inside ∙ ap (λ (l : List ℕ). phi_value said (Some l) phi) (sym label)),
           along at rest here (λ from to later. steps from to (inr later)) (λ other there. lows other (in_there at other rest there)),
         )
 
@@ -197,8 +196,7 @@ module _ (it : SoundFunc) (sound : IsSound it) (spots : PathSpots) (are : AreSpo
     values_on (first ∷ rest) same =
         let chain : IsPath it.flow.edges (first ∷ rest) = subst (IsPath it.flow.edges) same is.is_path in
         let lows : (at : ℕ) → Contains (first ∷ rest) at → at < length it.flow.order = λ at there. low_on at (subst (λ (l : List ℕ). Contains l at) (sym same) there) in
-        let low : first < length it.flow.order = lows first (in_here first rest) in
-        (
+        let low : first < length it.flow.order = lows first (in_here first rest) in (
           block_valued (block_at it first) (block_there it sound first low) None (λ phi inside. absurd (no_phi first rest chain low phi inside)),
           along first rest low (λ from to steps. subst (λ (l : List ℕ). Steps l from to) (sym same) steps) (λ at there. lows at (in_there first at rest there)),
         )
@@ -224,8 +222,7 @@ module _ (it : SoundFunc) (sound : IsSound it) (spots : PathSpots) (are : AreSpo
     params_said (param ∷ params) [] values same few stands given = absurd (omega (arith, same))
     params_said (param ∷ params) (arg ∷ args) [] same few stands given = absurd (omega (arith, few))
     params_said (param ∷ params) (arg ∷ args) (value ∷ values) same few stands given =
-        let here = All-head (IsGiven point) ((param, arg), value) (zip (zip params args) values) given in
-        (
+        let here = All-head (IsGiven point) ((param, arg), value) (zip (zip params args) values) given in (
           ap (λ (at : ValueVars). Some (value_at at point)) (stands 0 (omega arith)) ∙ ap Some here.value,
           params_said params args values (omega (arith, same)) (omega (arith, few)) (λ i low. stands (suc i) (omega (arith, low))) (All-tail (IsGiven point) ((param, arg), value) (zip (zip params args) values) given),
         )
