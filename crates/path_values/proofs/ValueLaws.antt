@@ -1,5 +1,5 @@
 -- A way has one map of values.
-use Rattle.std.proofs.Common.{◌≡◌, ◌⊎◌, inl, inr, ℕ, List, [], ◌∷◌, ◌++◌, map, Option, Some, None, is_some, refl, sym, ◌∙◌, ap, subst, append_assoc, append-nil}
+use Rattle.std.proofs.Common.{◌≡◌, ◌⊎◌, inl, inr, ℕ, List, [], ◌∷◌, ◌++◌, Option, Some, None, is_some, refl, sym, ◌∙◌, ap, subst, append_assoc, append-nil}
 use Rattle.std.specs.Prelude.{Contains, flat_map}
 use Rattle.std.specs.List.{AllByRecursion}
 use Rattle.std.proofs.lemmas.List.Concat.{flat_map-append}
@@ -7,8 +7,7 @@ use Rattle.std.proofs.lemmas.List.Elements.{Contains-append_left, Contains-appen
 use Rattle.ll_tree.specs.declared.func.Func.{Func}
 use Rattle.ll_tree.specs.declared.block.Block.{Block}
 use Rattle.ll_tree.specs.declared.block.Instr.{Instr}
-use Rattle.ll_tree.specs.declared.block.Operand.TheVariants as operand
-use Rattle.ll_rules.specs.Items.{Item, OfInstr, OfEnd, items_of, Part, Use, op_parts, end_parts}
+use Rattle.ll_rules.specs.Items.{Item, OfInstr, OfEnd, items_of, Part, op_parts, end_parts}
 use Rattle.ll_items.specs.Sites.{Site}
 use Rattle.ll_flow.specs.declared.uses.Moment.TheVariants.{At}
 use Rattle.ll_flow.specs.Paths.{label_of}
@@ -20,7 +19,7 @@ use Rattle.ir_runs.specs.Walk.{IsValued, AreValued, block_names, names_on}
 use Rattle.ir_runs.proofs.NamesLaws.{names_in, param_names, block_names_are}
 use Rattle.ir_runs.proofs.UsedLaws.{item_known}
 use Rattle.ir_runs.proofs.BlockLaws.{all_weaker, split_at, IsFirm, firm_valued, firm_grows, Knows, leaving, instr_among, end_among, AtItem, block_values_made}
-use Rattle.ir_runs.proofs.WalkLaws.{valued_at, leaving_push, names_push}
+use Rattle.ir_runs.proofs.WalkLaws.{valued_at, names_push}
 use Rattle.path_values.specs.Way.{IsWay, HasValues, AreTheValues, AreKnown, told, told_of}
 use Rattle.path_values.proofs.KeptLaws.{Grows, told_is, told_knows, told_grows, told_same, grown_same, params_same, holds_same}
 use Rattle.path_values.proofs.WayLaws.{there, before_within, path, never, arrives_at}

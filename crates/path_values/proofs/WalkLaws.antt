@@ -1,6 +1,5 @@
 -- Walks and ways.
-use Rattle.std.proofs.Common.{◌≡◌, ◌⊎◌, inl, inr, ℕ, List, [], ◌∷◌, length, map, Some, refl, sym, ◌∙◌, ap, arith}
-use Rattle.std.specs.Prelude.{Contains}
+use Rattle.std.proofs.Common.{◌≡◌, ℕ, List, [], ◌∷◌, length, map, Some, refl, sym, ◌∙◌, ap, arith}
 use Rattle.wx_base.specs.Args.{AreArguments}
 use Rattle.ll_tree.specs.declared.func.Func.{Func}
 use Rattle.ll_tree.specs.declared.block.Block.{Block}
@@ -13,7 +12,7 @@ use Rattle.ir_runs.proofs.StepLaws.{step_target}
 use Rattle.ir_runs.proofs.UsedLaws.{block_label, AreWithin}
 use Rattle.ir_runs.proofs.EntryLaws.{block_is}
 use Rattle.ir_runs.proofs.WalkLaws.{first_label, visited}
-use Rattle.path_values.specs.Way.{Begins, FollowOn, IsWay, HasValues, AreTheValues}
+use Rattle.path_values.specs.Way.{Begins, FollowOn, IsWay, AreTheValues}
 
 module _ (func : Func) (args : List ℕ) (vals : Vals) where
   pub follow_on : (blocks : List Block) → LeadOn func args vals blocks → FollowOn blocks

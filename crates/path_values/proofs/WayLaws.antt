@@ -1,12 +1,12 @@
 -- Where a way arrives, and that its blocks are different.
-use Rattle.std.proofs.Common.{◌≡◌, ◌⊎◌, inl, inr, ℕ, List, [], ◌∷◌, ◌++◌, map, Option, Some, None, refl, sym, ◌∙◌, ap, subst, append_assoc, append-nil}
+use Rattle.std.proofs.Common.{◌≡◌, ℕ, List, [], ◌∷◌, ◌++◌, map, Option, Some, None, refl, sym, ◌∙◌, subst, append_assoc}
 use Rattle.std.specs.Prelude.{Contains}
 use Rattle.std.proofs.lemmas.List.{map-append}
 use Rattle.std.proofs.lemmas.List.Elements.{Contains-append_left, Contains-append_right}
 use Rattle.ll_tree.specs.declared.func.Func.{Func}
 use Rattle.ll_tree.specs.declared.block.Block.{Block}
 use Rattle.ll_rules.specs.Items.{targets_of}
-use Rattle.ll_flow.specs.Paths.{label_of, GoesTo, IsPathTo}
+use Rattle.ll_flow.specs.Paths.{GoesTo, IsPathTo}
 use Rattle.ll_flow.proofs.PlaceLaws.{no_item}
 use Rattle.ll_verifier.specs.Rules.{Rules}
 use Rattle.ir_runs.proofs.MemberLaws.{in_here, in_map}

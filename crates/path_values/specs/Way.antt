@@ -1,5 +1,5 @@
 -- Ways of a function: blocks from the entry on, each a target of the one before it. Values along them.
-use Rattle.std.specs.Prelude.{◌≡◌, ◌↔◌, ℕ, List, [], ◌∷◌, if◌then◌else◌, Contains, Option, Some, None, IsSome}
+use Rattle.std.specs.Prelude.{◌≡◌, ◌↔◌, ℕ, List, [], ◌∷◌, if◌then◌else◌, Contains, Some, None, IsSome}
 use Rattle.std.specs.List.{AllZip, list_any}
 use Rattle.std.specs.Str.{bytes_eq}
 use Rattle.ll_tree.specs.declared.func.Func.{Func}

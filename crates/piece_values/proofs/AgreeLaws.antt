@@ -1,7 +1,7 @@
 -- The operands of assumes and terminators are what their variables say.
 use Rattle.std.proofs.Common.{◌≡◌, ◌<◌, ⊎_elim, ℕ, ℤ, List, [], ◌∷◌, length, map, Bool, true, false, Some, refl, sym, ◌∙◌, ap, subst}
 use Rattle.std.specs.Prelude.{Contains}
-use Rattle.std.proofs.lemmas.Bool.{true≢false, false≢true}
+use Rattle.std.proofs.lemmas.Bool.{true≢false}
 use Rattle.std.proofs.lemmas.List.Elements.{All-contains}
 use Rattle.ll_tree.specs.Formed.{FitsOperand, IsFormedBlock, IsFormedInstr, IsFormedOp, IsFormedEnd}
 use Rattle.ll_tree.specs.declared.block.Block.{Block}
@@ -17,16 +17,15 @@ use Rattle.ll_rules.specs.Items.{Item, OfInstr, OfEnd, items_of, Part, Use, Goal
 use Rattle.ll_flow.proofs.PlaceLaws.{no_item, cons_cases}
 use Rattle.ll_links.specs.Links.{end_operands}
 use Rattle.ll_verifier.specs.Sound.{SoundFunc, IsSound}
-use Rattle.ir_runs.specs.Values.{Vals, operand_value}
+use Rattle.ir_runs.specs.Values.{Vals}
 use Rattle.ir_runs.proofs.MemberLaws.{in_here, map_in}
 use Rattle.ir_runs.proofs.BlockLaws.{instr_among, end_among}
 use Rattle.ir_constants.specs.Counted.{counted}
 use Rattle.path_values.specs.Way.{told}
-use Rattle.wrap_rows.specs.Vars.{value_at}
-use Rattle.ir_pieces.specs.Choice.{literal_of, given_value, IsOperand}
+use Rattle.ir_pieces.specs.Choice.{literal_of, IsOperand}
 use Rattle.path_encoding.specs.declared.spots.PathSpots.{PathSpots}
 use Rattle.path_encoding.specs.Spots.{operand_vars, block_at}
-use Rattle.path_encoding.specs.Agree.{Agrees, AllAgree, assume_parts, AgreesIn, AgreesOn}
+use Rattle.path_encoding.specs.Agree.{Agrees, AllAgree, assume_parts, AgreesOn}
 use Rattle.point_runs.specs.Told.{told_at}
 use Rattle.point_runs.proofs.BlocksLaws.{block_there}
 use Rattle.piece_values.specs.Pieces.{operand_of}

@@ -1,18 +1,16 @@
 -- Of the edges into a block that a path steps to, that from the block before it is 1, and no other.
-use Rattle.std.proofs.Common.{◌≡◌, ◌≢◌, ◌↔◌, ◌+◌, ◌<◌, ◌≤◌, ◌==◌, ◌⊎◌, inl, inr, ℕ, ℤ, pos, eqb, Bool, true, false, cond, List, [], ◌∷◌, map, refl, sym, ◌∙◌, ap, subst, arith}
-use Rattle.std.specs.Prelude.{Contains, filter}
+use Rattle.std.proofs.Common.{◌≡◌, ◌≢◌, ◌↔◌, ◌<◌, ◌≤◌, ◌==◌, ◌⊎◌, inl, inr, ℕ, ℤ, pos, Bool, true, false, List, [], ◌∷◌, map, refl, sym, ◌∙◌, ap, subst, arith}
+use Rattle.std.specs.Prelude.{Contains}
 use Rattle.std.specs.Ordering.{int_eq}
-use Rattle.std.proofs.lemmas.Bool.{cond_both, eqb-true}
+use Rattle.std.proofs.lemmas.Bool.{eqb-true}
 use Rattle.std.proofs.lemmas.Bool.Decides.{Decides-eqb, Decides-int_eq}
 use Rattle.std.proofs.lemmas.List.Elements.{All-contains}
 use Rattle.flow_graph.specs.Paths.{HasEdge}
-use Rattle.block_order.specs.Walk.{IsChain}
 use Rattle.mix_system.specs.Row.{number_at}
 use Rattle.ll_flow.proofs.PlaceLaws.{no_item, cons_cases}
 use Rattle.ll_verifier.specs.declared.order.PositionEdge.{PositionEdge}
 use Rattle.ll_verifier.specs.Order.{position_edge}
 use Rattle.ll_verifier.specs.Sound.{SoundFunc, IsSound}
-use Rattle.ir_meaning.specs.declared.value.Val.{Val}
 use Rattle.ir_runs.proofs.MemberLaws.{in_here, in_there}
 use Rattle.wrap_rows.specs.declared.phi.Incoming.{Incoming}
 use Rattle.wrap_rows.specs.Vars.{value_at}

@@ -1,5 +1,5 @@
 -- A name that an item uses is a value's, of the width that is written; and what else the rules say of an item.
-use Rattle.std.proofs.Common.{◌≡◌, ◌⊎◌, inl, inr, ℕ, List, [], ◌∷◌, ◌++◌, length, map, Bool, true, false, not, eqb, Option, Some, None, refl, sym, ◌∙◌, ap, subst}
+use Rattle.std.proofs.Common.{◌≡◌, ◌⊎◌, inl, inr, ℕ, List, [], ◌∷◌, ◌++◌, length, map, Bool, true, false, eqb, Option, Some, None, refl, sym, ◌∙◌, ap, subst}
 use Rattle.std.specs.Prelude.{Contains}
 use Rattle.std.specs.List.{list_any}
 use Rattle.std.specs.Str.{bytes_eq}
@@ -9,7 +9,7 @@ use Rattle.std.proofs.lemmas.List.Elements.{All-contains}
 use Rattle.ll_tree.specs.declared.func.Func.{Func}
 use Rattle.ll_tree.specs.declared.block.Block.{Block}
 use Rattle.ll_tree.specs.declared.block.Operand.TheVariants as operand
-use Rattle.ll_rules.specs.Items.{Item, OfInstr, items_of, Part, Use, parts_of, labels_of, values_of}
+use Rattle.ll_rules.specs.Items.{Item, items_of, Use, parts_of, labels_of, values_of}
 use Rattle.ll_items.specs.Sites.{Site, sites_of}
 use Rattle.ll_item_rules.specs.Widths.{width_of, width_differs, part_differs, item_differs}
 use Rattle.ll_item_rules.specs.Constants.{is_not_linear}

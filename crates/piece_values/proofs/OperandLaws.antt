@@ -1,7 +1,7 @@
 -- The operands of an operation at a point where values and constants are known, and what it computes of them.
-use Rattle.std.proofs.Common.{◌≡◌, ◌<◌, ◌^◌, ℕ, ℤ, pos, ◌≤ℤ◌, ◌<ℤ◌, List, [], ◌∷◌, Bool, true, false, ◌||◌, Option, Some, None, refl, sym, ◌∙◌, ap, subst, arith}
+use Rattle.std.proofs.Common.{◌≡◌, ℕ, ℤ, List, [], ◌∷◌, Bool, true, false, ◌||◌, Option, Some, None, refl, ap, subst, arith}
 use Rattle.std.specs.Prelude.{Contains, unsigned_abs}
-use Rattle.std.proofs.lemmas.Bool.{true≢false, false≢true}
+use Rattle.std.proofs.lemmas.Bool.{false≢true}
 use Rattle.std.proofs.lemmas.Int.{ints}
 use Rattle.std.proofs.lemmas.Nat.{pow_pos}
 use Rattle.mix_system.specs.Row.{number_at}
@@ -15,8 +15,6 @@ use Rattle.ll_tree.specs.declared.op.Op.TheVariants.{Bin, Cmp, Cast, Select, Abs
 use Rattle.ll_rules.specs.Items.{Part, Use, op_parts}
 use Rattle.ll_rules.specs.Arithmetic.{is_constant, are_linear, is_linear}
 use Rattle.ll_verifier.specs.Sound.{SoundFunc}
-use Rattle.ir_meaning.specs.declared.value.Val.{Val}
-use Rattle.ir_meaning.specs.declared.value.Val.TheVariants.{Poison, Num}
 use Rattle.ir_meaning.specs.Value.{poison_if}
 use Rattle.ir_runs.specs.Values.{Vals, operand_value, op_value}
 use Rattle.ir_runs.proofs.MemberLaws.{in_here, in_there}
@@ -24,8 +22,7 @@ use Rattle.ir_constants.specs.Counted.{counted_of, counted}
 use Rattle.path_values.specs.Way.{told}
 use Rattle.wrap_rows.specs.declared.vars.ValueVars.{ValueVars}
 use Rattle.bit_rows.specs.Bitwise.{IsLiteral}
-use Rattle.wrap_rows.specs.Vars.{IsMark, IsNumber, IsValue, is_marked, value_at}
-use Rattle.bit_rows.specs.declared.bitwise.BitOperand.{BitOperand}
+use Rattle.wrap_rows.specs.Vars.{IsMark, IsValue, is_marked, value_at}
 use Rattle.ir_pieces.specs.Choice.{literal_of, given_value, value_of, computed, IsOperand, IsConstant, AreBoth, AreFactors, AreWithConstant, AreOfBin, AreOperands, AreNumbers, AreGiven}
 use Rattle.path_encoding.specs.declared.spots.PathSpots.{PathSpots}
 use Rattle.path_encoding.specs.Spots.{operand_vars}

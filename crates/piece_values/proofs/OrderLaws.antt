@@ -19,7 +19,7 @@ use Rattle.ll_flow.specs.Uses.{part_uses, item_uses}
 use Rattle.ll_flow.proofs.PlaceLaws.{no_item, cons_cases, led, same_label}
 use Rattle.ll_verifier.specs.Sound.{SoundFunc, IsSound}
 use Rattle.ir_runs.specs.Walk.{block_names, names_on}
-use Rattle.ir_runs.proofs.MemberLaws.{in_here, flat_in}
+use Rattle.ir_runs.proofs.MemberLaws.{flat_in}
 use Rattle.ir_runs.proofs.NamesLaws.{names_in, param_names, same_block}
 use Rattle.ir_runs.proofs.UsedLaws.{block_label, AreWithin, item_known, entry_known}
 use Rattle.ir_runs.proofs.EntryLaws.{target_there}

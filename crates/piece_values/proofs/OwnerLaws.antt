@@ -1,12 +1,10 @@
 -- The list of a function's pieces has a piece for each operation and each phi.
-use Rattle.std.proofs.Common.{◌≡◌, ◌⊎◌, inl, inr, ◌<◌, ⊎_elim, ℕ, List, [], ◌∷◌, ◌++◌, length, map, Option, Some, refl, sym, ◌∙◌, ap, subst, arith}
+use Rattle.std.proofs.Common.{◌≡◌, ◌⊎◌, inl, inr, ◌<◌, ℕ, List, [], ◌∷◌, ◌++◌, length, map, Option, Some, sym, subst, arith}
 use Rattle.std.specs.Prelude.{Contains, flat_map}
 use Rattle.std.specs.List.{AllZip, range_with_len}
 use Rattle.std.proofs.lemmas.List.Elements.{Contains-append_left, Contains-append_right}
 use Rattle.ll_tree.specs.declared.func.Param.{Param}
 use Rattle.ll_tree.specs.declared.block.Block.{Block}
-use Rattle.ll_tree.specs.declared.block.Phi.{Phi}
-use Rattle.ll_tree.specs.declared.block.Instr.{Instr}
 use Rattle.ll_rules.specs.Items.{Item, OfPhi, OfInstr, OfEnd, items_of, result_width}
 use Rattle.ll_flow.proofs.PlaceLaws.{no_item, cons_cases}
 use Rattle.ll_verifier.specs.Sound.{SoundFunc, IsSound}

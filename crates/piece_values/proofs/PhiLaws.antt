@@ -1,6 +1,6 @@
 -- A phi's piece says the operand for the block before.
-use Rattle.std.proofs.Common.{◌≡◌, ◌<◌, ◌≤◌, ℕ, ℤ, pos, List, [], ◌∷◌, ◌++◌, length, map, Option, Some, None, option_and_then, refl, sym, ◌∙◌, ap, subst}
-use Rattle.std.specs.Prelude.{Contains, All, unsigned_abs}
+use Rattle.std.proofs.Common.{◌≡◌, ◌<◌, ◌≤◌, ℕ, ℤ, List, [], ◌∷◌, ◌++◌, length, map, Option, Some, option_and_then, refl, sym, ◌∙◌, ap, subst}
+use Rattle.std.specs.Prelude.{Contains, All}
 use Rattle.std.specs.Option.{unwrap_or}
 use Rattle.std.proofs.lemmas.List.Elements.{All-contains, All-contains_itself, All-map, All-weaker, Contains-append_left}
 use Rattle.mix_system.specs.Row.{number_at}
@@ -18,9 +18,8 @@ use Rattle.ll_links.specs.Links.{operand_for}
 use Rattle.ll_verifier.specs.declared.order.PositionEdge.{PositionEdge}
 use Rattle.ll_verifier.specs.Order.{position_edge}
 use Rattle.ll_verifier.specs.Sound.{SoundFunc, IsSound}
-use Rattle.ir_meaning.specs.Value.{poison_if}
 use Rattle.ir_runs.specs.Values.{Vals, operand_value, phi_value}
-use Rattle.ir_runs.proofs.MemberLaws.{in_here, in_map, in_flat}
+use Rattle.ir_runs.proofs.MemberLaws.{in_map}
 use Rattle.ir_runs.proofs.EntryLaws.{entry_for}
 use Rattle.ir_runs.proofs.BlockLaws.{split_at}
 use Rattle.ir_constants.specs.Counted.{entries_of}
@@ -29,9 +28,7 @@ use Rattle.portion_cuts.specs.Paths.{place_at, label_at}
 use Rattle.wrap_rows.specs.declared.phi.Phi.{Phi as PhiPiece}
 use Rattle.wrap_rows.specs.declared.phi.Incoming.{Incoming}
 use Rattle.wrap_rows.specs.Phi.{taken_count, taken_value, IsIncoming, CanFill, CanSay}
-use Rattle.wrap_rows.specs.declared.vars.ValueVars.{ValueVars}
-use Rattle.wrap_rows.specs.Vars.{IsMark, IsValue, is_marked, value_at}
-use Rattle.bit_rows.specs.Bitwise.{IsLiteral}
+use Rattle.wrap_rows.specs.Vars.{IsMark, IsValue, value_at}
 use Rattle.ir_pieces.specs.Choice.{literal_of, given_value, AreNumbers, IsOperand}
 use Rattle.path_encoding.specs.declared.spots.PathSpots.{PathSpots}
 use Rattle.path_encoding.specs.Spots.{operand_vars, block_at, AreSpotsOf}

@@ -1,26 +1,21 @@
 -- The pieces of a function can be filled in one behind the other.
-use Rattle.std.proofs.Common.{◌≡◌, ◌⊎◌, inl, inr, ◌+◌, ◌<◌, ⊎_elim, ℕ, zero, suc, ℤ, pos, eqb, Bool, true, false, List, [], ◌∷◌, ◌++◌, length, map, Option, Some, None, option_map, option_to_list, refl, sym, ◌∙◌, ap, subst, arith, append_assoc, append-nil}
+use Rattle.std.proofs.Common.{◌≡◌, ◌⊎◌, inl, inr, ◌+◌, ◌<◌, ⊎_elim, ℕ, ℤ, true, List, [], ◌∷◌, ◌++◌, length, map, Option, Some, option_map, option_to_list, refl, sym, ◌∙◌, ap, subst, arith, append-nil}
 use Rattle.std.specs.Prelude.{Contains, flat_map}
-use Rattle.std.specs.List.{AllZip, range_with_len}
 use Rattle.std.specs.Option.{IfSome}
 use Rattle.std.proofs.lemmas.Bool.{cases_lt}
-use Rattle.std.proofs.lemmas.Option.{same_Some}
 use Rattle.std.proofs.lemmas.List.Concat.{flat_map-append}
 use Rattle.std.proofs.lemmas.List.Elements.{All-contains, Contains-append_left, Contains-append_right, Contains-append_cases}
-use Rattle.mix_system.specs.Row.{number_at}
 use Rattle.flow_graph.specs.Paths.{HasEdge}
-use Rattle.ll_tree.specs.Formed.{IsFormedParam, IsFormedBlock, IsFormedInstr, FitsRange}
+use Rattle.ll_tree.specs.Formed.{IsFormedBlock, IsFormedInstr}
 use Rattle.ll_tree.specs.declared.func.Func.{Func}
 use Rattle.ll_tree.specs.declared.func.Param.{Param}
-use Rattle.ll_tree.specs.declared.func.Range.{Range}
 use Rattle.ll_tree.specs.declared.block.Block.{Block}
 use Rattle.ll_tree.specs.declared.block.Phi.{Phi}
 use Rattle.ll_tree.specs.declared.block.PhiEntry.{PhiEntry}
 use Rattle.ll_tree.specs.declared.block.Instr.{Instr}
-use Rattle.ll_tree.specs.declared.block.End.{End}
 use Rattle.ll_tree.specs.declared.block.Operand.{Operand}
 use Rattle.ll_tree.specs.declared.block.Operand.TheVariants as operand
-use Rattle.ll_rules.specs.Items.{Item, OfPhi, OfInstr, OfEnd, items_of, op_parts, parts_of, Use, Goal, result_width, named, block_values, values_of}
+use Rattle.ll_rules.specs.Items.{Item, OfPhi, OfInstr, items_of, op_parts, parts_of, Use, Goal, result_width, named, block_values, values_of}
 use Rattle.ll_rules.specs.Arithmetic.{is_linear}
 use Rattle.std.proofs.lemmas.Bool.{not-false}
 use Rattle.name_table.specs.Names.{AreDifferent}
@@ -28,33 +23,32 @@ use Rattle.ll_flow.proofs.PlaceLaws.{no_item, cons_cases, absent}
 use Rattle.ll_verifier.specs.Sound.{SoundFunc, IsSound}
 use Rattle.ll_verifier.specs.Rules.{Rules}
 use Rattle.ir_runs.specs.Walk.{block_names}
-use Rattle.ir_runs.proofs.MemberLaws.{in_here, in_there, in_map, map_in, in_flat}
+use Rattle.ir_runs.proofs.MemberLaws.{in_here, in_map, in_flat}
 use Rattle.ir_runs.proofs.NamesLaws.{value_name, item_names, names_in, param_names, block_names_are}
 use Rattle.ir_runs.proofs.WidthLaws.{values_named, without_labels}
 use Rattle.portion_cuts.specs.Paths.{label_at}
 use Rattle.portion_cuts.proofs.LabelLaws.{edge_within}
 use Rattle.wrap_rows.specs.declared.vars.ValueVars.{ValueVars}
 use Rattle.wrap_rows.specs.Piece.{AreIn}
-use Rattle.wrap_rows.specs.Vars.{IsMark, IsValue}
+use Rattle.wrap_rows.specs.Vars.{IsValue}
 use Rattle.ir_pieces.specs.declared.piece.IrPiece.{IrPiece}
 use Rattle.ir_pieces.specs.declared.piece.IrPiece.TheVariants as kind
 use Rattle.ir_pieces.specs.declared.list.Placed.{Placed}
 use Rattle.ir_pieces.specs.Pieces.{ranges, vars, CanFill, CanSay}
 use Rattle.ir_pieces.specs.Lists.{AreReady}
-use Rattle.ir_pieces.specs.Choice.{piece_of, range_piece}
+use Rattle.ir_pieces.specs.Choice.{piece_of}
 use Rattle.ir_pieces.proofs.ChoiceLaws.{takes}
-use Rattle.ir_pieces.proofs.RangeLaws.{range_takes}
 use Rattle.path_encoding.specs.declared.spots.PathSpots.{PathSpots}
 use Rattle.path_encoding.specs.Spots.{block_at, AreSpotsOf}
 use Rattle.point_runs.proofs.BlocksLaws.{block_there}
-use Rattle.piece_values.specs.Pieces.{operands_of, name_vars, IsPhiPiece}
-use Rattle.piece_values.specs.Owners.{Owner, RangeOwner, PhiOwner, OpOwner, range_owner, op_owner, item_owner, block_owners, owners_of, StandsAs, IsPieceOf, ArePiecesOf}
+use Rattle.piece_values.specs.Pieces.{operands_of, name_vars}
+use Rattle.piece_values.specs.Owners.{PhiOwner, OpOwner, IsPieceOf}
 use Rattle.piece_values.specs.Ready.{IsReady}
 use Rattle.piece_values.proofs.NameLaws.{name_given, item_linear}
 use Rattle.piece_values.proofs.OperandLaws.{are_operands}
 use Rattle.piece_values.proofs.PhiLaws.{can_fill}
 use Rattle.piece_values.proofs.RangeLaws.{op_fits, value_in}
-use Rattle.piece_values.proofs.OrderLaws.{IsBefore, IsGivenBefore, used_before, entry_before}
+use Rattle.piece_values.proofs.OrderLaws.{IsGivenBefore, used_before, entry_before}
 
 abbrev Pair : Type 0
 Pair = List ℕ × ℕ

@@ -1,22 +1,19 @@
 -- All pieces of a function can be filled in, in their order.
-use Rattle.std.proofs.Common.{◌≡◌, ◌⊎◌, inl, inr, ◌+◌, ◌<◌, ⊎_elim, ℕ, zero, suc, ℤ, List, [], ◌∷◌, ◌++◌, length, map, Option, Some, None, option_to_list, option_map, refl, sym, ◌∙◌, ap, subst, arith, append_assoc, append-nil}
+use Rattle.std.proofs.Common.{◌≡◌, inl, inr, ◌+◌, ◌<◌, ⊎_elim, ℕ, zero, suc, ℤ, List, [], ◌∷◌, ◌++◌, length, map, Option, Some, None, option_to_list, option_map, refl, sym, ◌∙◌, ap, subst, arith, append_assoc, append-nil}
 use Rattle.std.specs.Prelude.{Contains, flat_map}
 use Rattle.std.specs.List.{AllZip, range_with_len}
 use Rattle.std.proofs.lemmas.Option.{same_Some}
 use Rattle.std.proofs.lemmas.List.Elements.{Contains-append_left, Contains-append_right, Contains-append_cases}
 use Rattle.mix_system.specs.Row.{number_at}
-use Rattle.ll_tree.specs.Formed.{IsFormedParam}
 use Rattle.ll_tree.specs.declared.func.Param.{Param}
 use Rattle.ll_tree.specs.declared.func.Range.{Range}
 use Rattle.ll_tree.specs.declared.block.Block.{Block}
 use Rattle.ll_tree.specs.declared.block.Phi.{Phi}
 use Rattle.ll_tree.specs.declared.block.Instr.{Instr}
-use Rattle.ll_tree.specs.declared.block.End.{End}
-use Rattle.ll_rules.specs.Items.{Item, OfPhi, OfInstr, OfEnd, items_of, result_width, block_values, values_of}
+use Rattle.ll_rules.specs.Items.{Item, OfPhi, OfInstr, OfEnd, items_of, result_width, block_values}
 use Rattle.ll_flow.proofs.PlaceLaws.{no_item, cons_cases}
 use Rattle.ll_verifier.specs.Sound.{SoundFunc, IsSound}
 use Rattle.ir_runs.proofs.MemberLaws.{in_here, in_there, in_map, map_in}
-use Rattle.ir_runs.proofs.NamesLaws.{param_names}
 use Rattle.wrap_rows.specs.declared.vars.ValueVars.{ValueVars}
 use Rattle.wrap_rows.specs.Piece.{AreIn}
 use Rattle.wrap_rows.specs.Vars.{IsMark, IsValue}
@@ -30,9 +27,8 @@ use Rattle.ir_pieces.proofs.RangeLaws.{range_takes}
 use Rattle.path_encoding.specs.declared.spots.PathSpots.{PathSpots}
 use Rattle.path_encoding.specs.Spots.{block_at, AreSpotsOf}
 use Rattle.piece_values.specs.Pieces.{name_vars}
-use Rattle.piece_values.specs.Owners.{Owner, RangeOwner, PhiOwner, OpOwner, range_owner, op_owner, item_owner, block_owners, owners_of, StandsAs, IsPieceOf, ArePiecesOf}
+use Rattle.piece_values.specs.Owners.{Owner, RangeOwner, OpOwner, range_owner, op_owner, item_owner, block_owners, IsPieceOf, ArePiecesOf}
 use Rattle.piece_values.specs.Ready.{IsReady}
-use Rattle.piece_values.proofs.OrderLaws.{IsBefore}
 use Rattle.piece_values.proofs.ReadyLaws.{of_some, any_width, IsValueOf, GivenAt, Knows, knows_on, knows_next, phi_fills, phi_known, op_fills, op_known}
 
 module _ (it : SoundFunc) (sound : IsSound it) (spots : PathSpots) (are : AreSpotsOf it spots) (path : List ℕ) where

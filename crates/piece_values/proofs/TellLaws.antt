@@ -1,10 +1,9 @@
 -- Where the pieces of a function hold, a point tells the values along the path that it takes.
-use Rattle.std.proofs.Common.{◌≡◌, ◌⊎◌, inl, inr, ◌<◌, ◌≤◌, ℕ, zero, suc, ℤ, pos, List, [], ◌∷◌, ◌++◌, length, get_or, map, true, Option, Some, None, option_map, refl, sym, ◌∙◌, ap, subst, arith}
+use Rattle.std.proofs.Common.{◌≡◌, ◌⊎◌, inl, inr, ◌<◌, ◌≤◌, ℕ, suc, ℤ, List, [], ◌∷◌, ◌++◌, length, get_or, map, true, Option, Some, None, option_map, refl, sym, ◌∙◌, ap, subst, arith}
 use Rattle.std.specs.Prelude.{Contains, All, zip, flat_map}
 use Rattle.std.specs.List.{AllByRecursion, AllZip}
 use Rattle.std.specs.Option.{unwrap_or, IfSome}
 use Rattle.std.proofs.lemmas.Bool.{not-false}
-use Rattle.std.proofs.lemmas.Option.{same_Some}
 use Rattle.std.proofs.lemmas.List.{get_or_append_left, length-map, length-append}
 use Rattle.std.proofs.lemmas.List.Elements.{All-contains, All-head, All-tail, Contains-append_left}
 use Rattle.ll_tree.specs.Formed.{IsFormedBlock, IsFormedInstr}
@@ -17,15 +16,13 @@ use Rattle.ll_tree.specs.declared.block.Operand.{Operand}
 use Rattle.ll_tree.specs.declared.block.Operand.TheVariants as operand
 use Rattle.flow_graph.specs.Paths.{HasEdge}
 use Rattle.ir_constants.specs.Counted.{entries_of}
-use Rattle.ll_rules.specs.Items.{Item, OfPhi, OfInstr, OfEnd, items_of, parts_of, Use, Goal, result_width, values_of}
+use Rattle.ll_rules.specs.Items.{OfPhi, OfInstr, OfEnd, items_of, parts_of, Use, Goal, result_width, values_of}
 use Rattle.ll_rules.specs.Arithmetic.{is_linear}
 use Rattle.name_table.specs.Names.{AreDifferent, place_of}
-use Rattle.ll_flow.specs.Paths.{label_of}
 use Rattle.ll_flow.proofs.PlaceLaws.{no_item, cons_cases, place_is}
 use Rattle.ll_links.specs.declared.link.Source.TheVariants as source
 use Rattle.ll_links.specs.Links.{value_id, value_source}
 use Rattle.ll_verifier.specs.Sound.{SoundFunc, IsSound}
-use Rattle.ir_meaning.specs.declared.value.Val.{Val}
 use Rattle.ir_runs.specs.Values.{Vals, ranged, op_value, phi_value}
 use Rattle.ir_runs.specs.Walk.{IsValued, AreValued, IsGiven as IsGivenTo, block_names}
 use Rattle.ir_runs.proofs.MemberLaws.{in_here, in_there, in_map, in_flat}
@@ -39,7 +36,6 @@ use Rattle.wrap_rows.specs.declared.vars.ValueVars.{ValueVars}
 use Rattle.wrap_rows.specs.Layout.{Holds}
 use Rattle.wrap_rows.specs.Piece.{AreIn}
 use Rattle.wrap_rows.specs.Vars.{IsValue, value_at}
-use Rattle.wrap_rows.specs.Phi.{taken_value}
 use Rattle.ir_pieces.specs.declared.piece.IrPiece.{IrPiece}
 use Rattle.ir_pieces.specs.declared.piece.IrPiece.TheVariants as kind
 use Rattle.ir_pieces.specs.declared.list.Placed.{Placed}
@@ -54,7 +50,7 @@ use Rattle.path_encoding.specs.Paths.{Steps, IsTaken, AreMarks}
 use Rattle.path_encoding.specs.Agree.{IsGiven, AgreesWith, blocks_on}
 use Rattle.point_runs.specs.Told.{told_at}
 use Rattle.point_runs.proofs.BlocksLaws.{path_low, label_is, block_there, begins}
-use Rattle.piece_values.specs.Pieces.{operands_of, name_vars, IsPhiPiece, Has, HasPieces}
+use Rattle.piece_values.specs.Pieces.{operands_of, name_vars, HasPieces}
 use Rattle.piece_values.specs.Known.{IsConst, AreKnown}
 use Rattle.piece_values.proofs.NameLaws.{name_given, item_linear}
 use Rattle.piece_values.proofs.OperandLaws.{are_operands, are_given, op_said}

@@ -4,7 +4,6 @@ use Rattle.mix_system.specs.Row.{number_at}
 use Rattle.ll_tree.specs.declared.block.Block.{Block}
 use Rattle.ll_tree.specs.declared.block.Instr.{Instr}
 use Rattle.ll_tree.specs.declared.block.Phi.{Phi}
-use Rattle.ll_tree.specs.declared.block.Operand.{Operand}
 use Rattle.ll_tree.specs.declared.block.Operand.TheVariants as operand
 use Rattle.ll_rules.specs.Items.{values_of}
 use Rattle.ll_links.specs.Links.{end_operands}

@@ -7,7 +7,6 @@ use Rattle.ll_tree.specs.declared.block.Phi.{Phi}
 use Rattle.ll_tree.specs.declared.block.Instr.{Instr}
 use Rattle.ll_rules.specs.Items.{Item, OfPhi, OfInstr, OfEnd, items_of, result_width}
 use Rattle.ll_verifier.specs.Sound.{SoundFunc}
-use Rattle.wrap_rows.specs.declared.vars.ValueVars.{ValueVars}
 use Rattle.ir_pieces.specs.declared.piece.IrPiece.{IrPiece}
 use Rattle.ir_pieces.specs.declared.list.Placed.{Placed}
 use Rattle.ir_pieces.specs.Pieces.{vars}

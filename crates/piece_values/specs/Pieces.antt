@@ -1,5 +1,5 @@
 -- The pieces of a function's values, by the variables of its blocks, edges and values.
-use Rattle.std.specs.Prelude.{◌≡◌, ◌==◌, ◌<◌, ℕ, ℤ, List, length, map, filter, Contains, Option, Some}
+use Rattle.std.specs.Prelude.{◌≡◌, ◌==◌, ◌<◌, ℕ, List, length, map, filter, Contains, Some}
 use Rattle.std.specs.Option.{unwrap_or}
 use Rattle.ll_tree.specs.declared.block.Block.{Block}
 use Rattle.ll_tree.specs.declared.block.Phi.{Phi}

@@ -1,5 +1,5 @@
 -- What is known of a point before its pieces are filled in.
-use Rattle.std.specs.Prelude.{◌≡◌, ◌<◌, ◌≤◌, ℕ, ℤ, List, length, map, Contains, None}
+use Rattle.std.specs.Prelude.{◌≡◌, ℕ, ℤ, List, Contains, None}
 use Rattle.mix_system.specs.Row.{number_at}
 use Rattle.ll_tree.specs.declared.func.Param.{Param}
 use Rattle.ll_tree.specs.declared.block.Block.{Block}
@@ -7,8 +7,7 @@ use Rattle.ll_tree.specs.declared.block.Instr.{Instr}
 use Rattle.ll_tree.specs.declared.block.Phi.{Phi}
 use Rattle.ll_tree.specs.declared.block.Operand.TheVariants as operand
 use Rattle.ll_verifier.specs.Sound.{SoundFunc}
-use Rattle.wrap_rows.specs.Phi.{taken_count}
-use Rattle.wrap_rows.specs.Vars.{IsNumber, IsMark, IsValue}
+use Rattle.wrap_rows.specs.Vars.{IsNumber, IsMark}
 use Rattle.ir_constants.specs.Counted.{counted, entries_of}
 use Rattle.ir_pieces.specs.Choice.{AreNumbers}
 use Rattle.path_encoding.specs.declared.spots.PathSpots.{PathSpots}

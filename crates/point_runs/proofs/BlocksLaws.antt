@@ -1,5 +1,5 @@
 -- The blocks of a path by positions, and what values agree with.
-use Rattle.std.proofs.Common.{◌≡◌, ◌<◌, ⊎_elim, ℕ, ℤ, List, [], ◌∷◌, length, get_or, map, Option, Some, refl, sym, ◌∙◌, ap, subst, arith}
+use Rattle.std.proofs.Common.{◌≡◌, ◌<◌, ⊎_elim, ℕ, ℤ, List, [], ◌∷◌, length, map, Option, Some, refl, sym, ◌∙◌, ap, subst, arith}
 use Rattle.std.specs.Prelude.{Contains}
 use Rattle.std.proofs.lemmas.List.{get_or-map}
 use Rattle.std.proofs.lemmas.List.Elements.{Contains-get_or}
@@ -16,18 +16,18 @@ use Rattle.ll_flow.proofs.PlaceLaws.{no_item, cons_cases}
 use Rattle.ll_verifier.specs.Sound.{SoundFunc, IsSound}
 use Rattle.ir_meaning.specs.declared.value.Val.{Val}
 use Rattle.ir_runs.specs.Values.{Vals, operand_value}
-use Rattle.ir_runs.specs.Walk.{block_of, names_on}
+use Rattle.ir_runs.specs.Walk.{block_of}
 use Rattle.ir_runs.proofs.EntryLaws.{block_is}
 use Rattle.ir_runs.proofs.MemberLaws.{in_here, in_there, in_map, map_in}
 use Rattle.ir_runs.proofs.UsedLaws.{block_label, AreWithin}
-use Rattle.path_values.specs.Way.{Begins, AreKnown, told, told_of}
+use Rattle.path_values.specs.Way.{Begins, told, told_of}
 use Rattle.path_values.proofs.KeptLaws.{told_is}
 use Rattle.portion_cuts.specs.Paths.{place_at, label_at, IsPath}
 use Rattle.portion_cuts.proofs.EntryLaws.{first_place}
 use Rattle.portion_cuts.proofs.LabelLaws.{edge_within, place_within}
 use Rattle.path_encoding.specs.declared.spots.PathSpots.{PathSpots}
 use Rattle.path_encoding.specs.Spots.{no_block, block_at}
-use Rattle.path_encoding.specs.Agree.{Agrees, AllAgree, AgreesIn, AgreesOn, assume_parts, blocks_on}
+use Rattle.path_encoding.specs.Agree.{AllAgree, AgreesIn, AgreesOn, assume_parts, blocks_on}
 
 module _ (it : SoundFunc) (sound : IsSound it) where
   pub label_is : (at : ℕ) → at < length it.flow.order → (block_at it at).label ≡ label_at it at

@@ -1,5 +1,5 @@
 -- A point that tells the values along its path is a run, and a run along it makes the layout hold.
-use Rattle.std.proofs.Common.{◌≡◌, ℕ, ℤ, List, map, refl, sym, ◌∙◌, ap, subst}
+use Rattle.std.proofs.Common.{◌≡◌, ℕ, ℤ, List, map, sym, subst}
 use Rattle.wx_base.specs.Args.{AreArguments}
 use Rattle.ll_tree.specs.declared.block.Block.{Block}
 use Rattle.ll_verifier.specs.Sound.{SoundFunc, IsSound}
@@ -13,9 +13,7 @@ use Rattle.path_values.specs.Way.{IsWay, AreTheValues, told, told_of}
 use Rattle.path_values.proofs.ValueLaws.{body_known, end_known, the_values, only}
 use Rattle.path_values.proofs.WalkLaws.{follow_on, way_of, values_of, walk_on}
 use Rattle.portion_cuts.specs.Paths.{label_at}
-use Rattle.wrap_rows.specs.Layout.{Holds}
 use Rattle.path_encoding.specs.declared.spots.PathSpots.{PathSpots}
-use Rattle.path_encoding.specs.PathLayout.{path_layout}
 use Rattle.path_encoding.specs.Paths.{IsTaken}
 use Rattle.path_encoding.specs.Agree.{AgreesOn, ReturnsOn, blocks_on}
 use Rattle.point_runs.specs.Told.{told_at, TellsAlong, RunsAlong}
