@@ -111,7 +111,7 @@ module _ (it : SoundFunc) (sound : IsSound it) (spots : PathSpots) (point : List
     ends_agree : AllAgree it spots point said (end_parts block.end)
     ends_agree asked width used =
         let is = end_operand block.end formed.ends asked width used in
-        operand_is (OfEnd block.end) (end_among block) asked width used is.0 (λ n same. known.ends block there n (subst (Contains (end_operands block.end)) same is.1))
+        operand_is (OfEnd block.end) (end_among block) asked width used is.0 (λ n same. known.constants.ends block there n (subst (Contains (end_operands block.end)) same is.1))
 
     module _ (instr : Instr) (inside : Contains block.body instr) where
       instr_formed : IsFormedInstr instr
@@ -128,7 +128,7 @@ module _ (it : SoundFunc) (sound : IsSound it) (spots : PathSpots) (point : List
           let fits : FitsOperand 1 test = subst IsFormedOp same instr_formed.1 in
           operand_is (OfInstr instr) (instr_among block instr inside) asked w (subst (λ (o : Op). Contains (op_parts o) (Use asked w)) (sym same) used)
           (subst (λ (n : ℕ). FitsOperand n asked) is.1 (subst (FitsOperand 1) is.0 fits))
-          (λ n const. known.constants block there instr inside n (subst (λ (o : Op). Contains (counted o) (operand.Const n)) (sym same) (subst (Contains (test ∷ [])) (is.0 ∙ const) (in_here test []))))
+          (λ n const. known.constants.operations block there instr inside n (subst (λ (o : Op). Contains (counted o) (operand.Const n)) (sym same) (subst (Contains (test ∷ [])) (is.0 ∙ const) (in_here test []))))
 
       pub assume_agrees : AllAgree it spots point said (assume_parts instr.op)
       assume_agrees = of_op instr.op refl

@@ -1,5 +1,6 @@
 mod AgreeLaws
 mod EdgeLaws
+mod FilledLaws
 mod NameLaws
 mod OperandLaws
 mod OrderLaws

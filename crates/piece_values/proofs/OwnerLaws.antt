@@ -4,6 +4,7 @@ use Rattle.std.specs.Prelude.{Contains, flat_map}
 use Rattle.std.specs.List.{AllZip, range_with_len}
 use Rattle.std.proofs.lemmas.List.Elements.{Contains-append_left, Contains-append_right}
 use Rattle.ll_tree.specs.declared.func.Param.{Param}
+use Rattle.ll_tree.specs.declared.func.Range.{Range}
 use Rattle.ll_tree.specs.declared.block.Block.{Block}
 use Rattle.ll_rules.specs.Items.{Item, OfPhi, OfInstr, OfEnd, items_of, result_width}
 use Rattle.ll_flow.proofs.PlaceLaws.{no_item, cons_cases}
@@ -18,7 +19,7 @@ use Rattle.path_encoding.specs.declared.spots.PathSpots.{PathSpots}
 use Rattle.path_encoding.specs.Spots.{block_at}
 use Rattle.path_encoding.proofs.GraphLaws.{counted}
 use Rattle.piece_values.specs.Pieces.{operands_of, name_vars, IsPhiPiece, Has, HasPieces}
-use Rattle.piece_values.specs.Owners.{Owner, PhiOwner, OpOwner, range_owner, op_owner, item_owner, block_owners, owners_of, StandsAs, IsPieceOf, ArePiecesOf}
+use Rattle.piece_values.specs.Owners.{Owner, RangeOwner, PhiOwner, OpOwner, range_owner, op_owner, item_owner, block_owners, owners_of, StandsAs, IsPieceOf, ArePiecesOf}
 use Rattle.piece_values.proofs.OrderLaws.{block_is}
 
 -- what stands beside a member
@@ -34,14 +35,21 @@ partner {X = X} {Y = Y} P (first ∷ xs) (other ∷ ys) x all there = by_cases (
         (found.0, in_there other found.0 ys found.1, found.2)
 
 module _ (it : SoundFunc) (sound : IsSound it) (spots : PathSpots) (placed : List Placed) (are : ArePiecesOf it spots placed) where
-  of_item : (at : ℕ) → at < length it.flow.order → (item : Item) → Contains (items_of (block_at it at)) item → (owner : Owner) → Contains (item_owner at item) owner → Contains (owners_of it) owner
+  pub of_item : (at : ℕ) → at < length it.flow.order → (item : Item) → Contains (items_of (block_at it at)) item → (owner : Owner) → Contains (item_owner at item) owner → Contains (owners_of it) owner
   of_item at low item inside owner mine =
       Contains-append_right (flat_map (λ (param : Param). range_owner param param.range) it.func.params) (flat_map (block_owners it) (range_with_len 0 (length it.flow.order))) owner
       (in_flat (block_owners it) (range_with_len 0 (length it.flow.order)) at owner (counted 0 (length it.flow.order) at (omega arith) (omega (arith, low)))
       (in_flat (item_owner at) (items_of (block_at it at)) item owner inside mine))
 
-  has : (owner : Owner) → Contains (owners_of it) owner → (one : Placed) × Contains placed one × IsPieceOf it spots owner one
+  pub has : (owner : Owner) → Contains (owners_of it) owner → (one : Placed) × Contains placed one × IsPieceOf it spots owner one
   has owner there = partner (IsPieceOf it spots) (owners_of it) placed owner are there
+
+  -- the piece of a parameter with a range
+  pub of_range : (param : Param) → Contains it.func.params param → (range : Range) → param.range ≡ Some range → Contains (owners_of it) (RangeOwner param range)
+  of_range param there range is =
+      Contains-append_left (flat_map (λ (param : Param). range_owner param param.range) it.func.params) (flat_map (block_owners it) (range_with_len 0 (length it.flow.order))) (RangeOwner param range)
+      (in_flat (λ (param : Param). range_owner param param.range) it.func.params param (RangeOwner param range) there
+      (subst (λ (o : Option Range). Contains (range_owner param o) (RangeOwner param range)) (sym is) (in_here (RangeOwner param range) [])))
 
   stands : (name : List ℕ) (Is : IrPiece → Type 0) (one : Placed) → Contains placed one → StandsAs it spots name one Is → Has placed (name_vars it spots name) Is
   stands name Is one among is = record { one = one; among = among; stands = is.stands; piece = is.piece }

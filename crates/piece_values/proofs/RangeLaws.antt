@@ -1,5 +1,5 @@
 -- Number and mark of a piece whose variables lie in their ranges are a value of its operation's width.
-use Rattle.std.proofs.Common.{◌≡◌, ◌+◌, ◌-◌, ◌^◌, ◌<◌, ℕ, ℤ, pos, List, Bool, true, false, cond, Option, Some, None, subst, arith}
+use Rattle.std.proofs.Common.{◌≡◌, ◌+◌, ◌-◌, ◌^◌, ◌<◌, ℕ, ℤ, pos, List, Bool, true, false, cond, Option, Some, None, subst, arith, sym}
 use Rattle.std.specs.Prelude.{nat_lt}
 use Rattle.std.proofs.lemmas.Int.{ints}
 use Rattle.std.proofs.lemmas.Nat.{pow_pos}
@@ -16,13 +16,22 @@ use Rattle.ll_tree.specs.declared.op.Op.TheVariants.{Bin, Cmp, Cast, Select, Abs
 use Rattle.ll_rules.specs.Items.{result_width}
 use Rattle.wrap_rows.specs.declared.vars.ValueVars.{ValueVars}
 use Rattle.wrap_rows.specs.Piece.{AreIn}
-use Rattle.wrap_rows.specs.Vars.{IsValue}
+use Rattle.wrap_rows.specs.Vars.{IsMark, IsValue}
 use Rattle.bit_rows.specs.declared.bitwise.BitOperand.{BitOperand}
 use Rattle.ir_pieces.specs.declared.piece.IrPiece.{IrPiece}
 use Rattle.ir_pieces.specs.declared.piece.IrPiece.TheVariants as kind
 use Rattle.wrap_rows.specs.declared.scaled.Scale.TheVariants.{Shift}
 use Rattle.wrap_rows.specs.declared.shift_out.ShiftKind.TheVariants.{Left}
+use Rattle.ir_pieces.specs.declared.list.Placed.{Placed}
 use Rattle.ir_pieces.specs.Pieces.{ranges, vars}
+use Rattle.ll_tree.specs.declared.func.Param.{Param}
+use Rattle.ll_tree.specs.declared.func.Range.{Range}
+use Rattle.ll_tree.specs.declared.block.Phi.{Phi}
+use Rattle.ll_tree.specs.declared.block.Instr.{Instr}
+use Rattle.ll_verifier.specs.Sound.{SoundFunc}
+use Rattle.path_encoding.specs.declared.spots.PathSpots.{PathSpots}
+use Rattle.piece_values.specs.Pieces.{operands_of, name_vars}
+use Rattle.piece_values.specs.Owners.{RangeOwner, PhiOwner, OpOwner, IsPieceOf}
 use Rattle.ir_pieces.specs.Choice.{constant_of, operand_at, scaled_piece, product_by, shifted_out, right_kind, right_piece, bin_piece, cast_piece, piece_of}
 
 abbrev own_vars : ℕ → ValueVars
@@ -93,3 +102,29 @@ module _ (first : ℕ) (point : List ℤ) where
   op_fits (Abs own arg strict) operands width has piece is =
       fits own width (same_Some own width has) _ piece (same_Some _ piece is) (λ within. value_in own first point within.0 within.1.0)
   op_fits (Assume test) operands width has piece is = absurd (none-some width has)
+
+-- ---- the value of an owner
+
+-- a value stands at the variables of a piece
+moved : (width : ℕ) (at to : ValueVars) (point : List ℤ) → at ≡ to → IsValue width at point → IsValue width to point
+moved width at to point same is = subst (λ (v : ValueVars). IsValue width v point) same is
+
+module _ (it : SoundFunc) (spots : PathSpots) (point : List ℤ) (one : Placed) (within : AreIn one.first (ranges one.piece) point) where
+  pub phi_value : (at : ℕ) (phi : Phi) → IsPieceOf it spots (PhiOwner at phi) one → IsValue phi.width (name_vars it spots phi.name) point
+  phi_value at phi is =
+      let mine : AreIn one.first (ranges (kind.Phi is.piece.of)) point = subst (λ (p : IrPiece). AreIn one.first (ranges p) point) is.piece.is within in
+      let value : IsValue is.piece.of.width (vars (kind.Phi is.piece.of) one.first) point = value_in is.piece.of.width one.first point mine.0 mine.1.0 in
+      moved phi.width (vars one.piece one.first) (name_vars it spots phi.name) point is.stands
+      (subst (λ (p : IrPiece). IsValue phi.width (vars p one.first) point) (sym is.piece.is) (subst (λ (w : ℕ). IsValue w (vars (kind.Phi is.piece.of) one.first) point) is.piece.width value))
+
+  pub op_value : (instr : Instr) (width : ℕ) → result_width instr.op ≡ Some width → IsPieceOf it spots (OpOwner instr) one → IsValue width (name_vars it spots instr.name) point
+  op_value instr width has is =
+      moved width (vars one.piece one.first) (name_vars it spots instr.name) point is.stands (op_fits one.first point instr.op (operands_of it spots instr.op) width has one.piece is.piece within)
+
+  pub range_mark : (param : Param) (range : Range) → IsPieceOf it spots (RangeOwner param range) one → IsMark (number_at point (name_vars it spots param.name).mark)
+  range_mark param range is =
+      let mine : IrPiece = kind.Ranged (record { width = param.width; low = range.lo; high = range.hi; number = (name_vars it spots param.name).number }) in
+      let same : mine ≡ one.piece = same_Some mine one.piece is.piece in
+      let own : AreIn one.first (ranges mine) point = subst (λ (p : IrPiece). AreIn one.first (ranges p) point) (sym same) within in
+      let mark : IsMark (number_at point (vars mine one.first).mark) = (own.0.0, own.0.1) in
+      subst (λ (v : ValueVars). IsMark (number_at point v.mark)) is.stands (subst (λ (p : IrPiece). IsMark (number_at point (vars p one.first).mark)) same mark)

@@ -47,7 +47,7 @@ use Rattle.piece_values.specs.Ready.{IsReady}
 use Rattle.piece_values.proofs.NameLaws.{name_given, item_linear}
 use Rattle.piece_values.proofs.OperandLaws.{are_operands}
 use Rattle.piece_values.proofs.PhiLaws.{can_fill}
-use Rattle.piece_values.proofs.RangeLaws.{op_fits, value_in}
+use Rattle.piece_values.proofs.RangeLaws.{phi_value, op_value}
 use Rattle.piece_values.proofs.OrderLaws.{IsGivenBefore, used_before, entry_before}
 
 abbrev Pair : Type 0
@@ -86,10 +86,6 @@ module _ (it : SoundFunc) (sound : IsSound it) (spots : PathSpots) (are : AreSpo
 
   abbrev pub IsValueOf : List ℕ → ℕ → Type 0
   IsValueOf name width = Contains {X = Pair} (values_of it.func) (name, width)
-
-  -- a value stands at the variables of a piece
-  moved : (width : ℕ) (name : List ℕ) (at : ValueVars) (point : List ℤ) → at ≡ name_vars it spots name → IsValue width at point → IsVal point name width
-  moved width name at point same is = subst (λ (v : ValueVars). IsValue width v point) same is
 
   -- a name's value is known by one of its widths
   pub any_width : (name : List ℕ) (own width : ℕ) (point : List ℤ) → IsValueOf name own → IsValueOf name width → IsVal point name own → IsVal point name width
@@ -181,7 +177,7 @@ module _ (it : SoundFunc) (sound : IsSound it) (spots : PathSpots) (are : AreSpo
         phi_fills point known =
             let ready = knows.ready point known in
             subst (λ (p : IrPiece). CanFill p point) (sym is.piece.is)
-            (can_fill it sound spots are point ready.numbers at low phi inside (entries_named point known) (ready.entries block there phi inside) is.piece.of is.piece.width is.piece.incoming ready.marks path ready.taken)
+            (can_fill it sound spots are point ready.numbers at low phi inside (entries_named point known) (ready.constants.entries block there phi inside) is.piece.of is.piece.width is.piece.incoming ready.marks path ready.taken)
           where
             entries_named : (point : List ℤ) → Known point → (from : ℕ) → HasEdge it.flow.edges from at → (entry : PhiEntry) → Contains phi.entries entry → entry.from ≡ label_at it from → (name : List ℕ) → entry.value ≡ operand.Name name → IsVal point name phi.width
             entries_named point known from edge entry among comes_from name is_name =
@@ -191,18 +187,11 @@ module _ (it : SoundFunc) (sound : IsSound it) (spots : PathSpots) (are : AreSpo
                 (name_given it.func sound.rules block there (OfPhi phi) (inside_item (OfPhi phi) items) name phi.width (subst (λ (o : Operand). Contains (parts_of (OfPhi phi)) (Use o phi.width)) is_name used))
                 (inl (entry_before it sound at low front rest (OfPhi phi) items phi refl from edge from_low entry among comes_from name is_name))
 
-        phi_value : (point : List ℤ) → AreIn one.first (ranges one.piece) point → IsVal point phi.name phi.width
-        phi_value point within =
-            let mine : AreIn one.first (ranges (kind.Phi is.piece.of)) point = subst (λ (p : IrPiece). AreIn one.first (ranges p) point) is.piece.is within in
-            let value : IsValue is.piece.of.width (vars (kind.Phi is.piece.of) one.first) point = value_in is.piece.of.width one.first point mine.0 mine.1.0 in
-            moved phi.width phi.name (vars one.piece one.first) point is.stands
-            (subst (λ (p : IrPiece). IsValue phi.width (vars p one.first) point) (sym is.piece.is) (subst (λ (w : ℕ). IsValue w (vars (kind.Phi is.piece.of) one.first) point) is.piece.width value))
-
         pub phi_known : Knows (λ point. Known point × AreIn one.first (ranges one.piece) point) at (front ++ OfPhi phi ∷ [])
         phi_known =
             knows_more Known (λ point. Known point × AreIn one.first (ranges one.piece) point) at front (OfPhi phi) phi.name phi.width refl
             (value_of_block phi.name phi.width (Contains-append_left (map (λ (phi : Phi). (phi.name, phi.width)) block.phis) (flat_map (λ (instr : Instr). named instr.name (result_width instr.op)) block.body) (phi.name, phi.width) (in_map (λ (phi : Phi). (phi.name, phi.width)) block.phis phi inside)))
-            (λ point more. (more.0, phi_value point more.1)) knows
+            (λ point more. (more.0, phi_value it spots point one more.1 at phi is)) knows
 
       -- ---- an operation with a result
 
@@ -212,7 +201,7 @@ module _ (it : SoundFunc) (sound : IsSound it) (spots : PathSpots) (are : AreSpo
             let ready = knows.ready point known in
             let instr_formed : IsFormedInstr instr = All-contains IsFormedInstr block.body instr formed.body inside in
             let linear : is_linear instr.op ≡ true = not-false (is_linear instr.op) (item_linear it.func sound.rules block there (OfInstr instr) (inside_item (OfInstr instr) items)) in
-            let operands = are_operands it spots point ready.numbers instr.op instr_formed.1 linear (all_named point known) (ready.constants block there instr inside) in
+            let operands = are_operands it spots point ready.numbers instr.op instr_formed.1 linear (all_named point known) (ready.constants.operations block there instr inside) in
             (of_some (λ (p : IrPiece). CanFill p point × CanSay p point) (piece_of instr.op (operands_of it spots instr.op)) one.piece is.piece (takes point instr.op (operands_of it spots instr.op) ready.numbers operands)).0
           where
             all_named : (point : List ℤ) → Known point → (name : List ℕ) (w : ℕ) → Contains (op_parts instr.op) (Use (operand.Name name) w) → IsVal point name w
@@ -225,5 +214,5 @@ module _ (it : SoundFunc) (sound : IsSound it) (spots : PathSpots) (are : AreSpo
             let pair : Contains {X = Pair} (named instr.name (result_width instr.op)) (instr.name, width) = subst (λ (o : Option ℕ). Contains {X = Pair} (named instr.name o) (instr.name, width)) (sym has) (in_here {X = Pair} (instr.name, width) []) in
             knows_more Known (λ point. Known point × AreIn one.first (ranges one.piece) point) at front (OfInstr instr) instr.name width (ap (λ (o : Option ℕ). option_to_list (option_map (λ (w : ℕ). instr.name) o)) has)
             (value_of_block instr.name width (Contains-append_right (map (λ (phi : Phi). (phi.name, phi.width)) block.phis) (flat_map (λ (instr : Instr). named instr.name (result_width instr.op)) block.body) (instr.name, width) (in_flat (λ (instr : Instr). named instr.name (result_width instr.op)) block.body instr (instr.name, width) inside pair)))
-            (λ point more. (more.0, moved width instr.name (vars one.piece one.first) point is.stands (op_fits one.first point instr.op (operands_of it spots instr.op) width has one.piece is.piece more.1)))
+            (λ point more. (more.0, op_value it spots point one more.1 instr width has is))
             knows

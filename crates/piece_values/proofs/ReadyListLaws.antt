@@ -1,8 +1,8 @@
 -- All pieces of a function can be filled in, in their order.
-use Rattle.std.proofs.Common.{◌≡◌, inl, inr, ◌+◌, ◌<◌, ⊎_elim, ℕ, zero, suc, ℤ, List, [], ◌∷◌, ◌++◌, length, map, Option, Some, None, option_to_list, option_map, refl, sym, ◌∙◌, ap, subst, arith, append_assoc, append-nil}
+use Rattle.std.proofs.Common.{◌≡◌, inl, inr, ◌+◌, ◌<◌, ⊎_elim, ℕ, zero, suc, ℤ, pos, List, [], ◌∷◌, ◌++◌, length, map, Option, Some, None, option_to_list, option_map, refl, sym, ◌∙◌, ap, subst, arith, append_assoc, append-nil}
 use Rattle.std.specs.Prelude.{Contains, flat_map}
 use Rattle.std.specs.List.{AllZip, range_with_len}
-use Rattle.std.proofs.lemmas.Option.{same_Some}
+use Rattle.std.proofs.lemmas.Int.{ints}
 use Rattle.std.proofs.lemmas.List.Elements.{Contains-append_left, Contains-append_right, Contains-append_cases}
 use Rattle.mix_system.specs.Row.{number_at}
 use Rattle.ll_tree.specs.declared.func.Param.{Param}
@@ -29,6 +29,7 @@ use Rattle.path_encoding.specs.Spots.{block_at, AreSpotsOf}
 use Rattle.piece_values.specs.Pieces.{name_vars}
 use Rattle.piece_values.specs.Owners.{Owner, RangeOwner, OpOwner, range_owner, op_owner, item_owner, block_owners, IsPieceOf, ArePiecesOf}
 use Rattle.piece_values.specs.Ready.{IsReady}
+use Rattle.piece_values.proofs.RangeLaws.{range_mark}
 use Rattle.piece_values.proofs.ReadyLaws.{of_some, any_width, IsValueOf, GivenAt, Knows, knows_on, knows_next, phi_fills, phi_known, op_fills, op_known}
 
 module _ (it : SoundFunc) (sound : IsSound it) (spots : PathSpots) (are : AreSpotsOf it spots) (path : List ℕ) where
@@ -131,14 +132,11 @@ module _ (it : SoundFunc) (sound : IsSound it) (spots : PathSpots) (are : AreSpo
         (Contains-append_cases done (param ∷ []) other there);
   }
 
-  -- the mark that a ranged parameter's piece has
-  range_marked : (param : Param) (range : Range) (one : Placed) → IsPieceOf it spots (RangeOwner param range) one → (point : List ℤ) → AreIn one.first (ranges one.piece) point → IsMarked point param
-  range_marked param range one is point within =
-      let mine : IrPiece = kind.Ranged (record { width = param.width; low = range.lo; high = range.hi; number = (name_vars it spots param.name).number }) in
-      let same : mine ≡ one.piece = same_Some mine one.piece is.piece in
-      let own : AreIn one.first (ranges mine) point = subst (λ (p : IrPiece). AreIn one.first (ranges p) point) (sym same) within in
-      let mark : IsMark (number_at point (vars mine one.first).mark) = (own.0.0, own.0.1) in
-      subst (λ (v : ValueVars). IsMark (number_at point v.mark)) is.stands (subst (λ (p : IrPiece). IsMark (number_at point (vars p one.first).mark)) same mark)
+  -- a parameter without a range has the mark 0
+  unmarked : (point : List ℤ) → IsReady it spots path point → (param : Param) → Contains params param → param.range ≡ None → IsMarked point param
+  unmarked point ready param there none =
+      let zero : number_at point (name_vars it spots param.name).mark ≡ pos 0 = ap (number_at point) (ready.unranged param there none) ∙ ready.numbers.zero_is in
+      (omega (arith, ints, zero), omega (arith, ints, zero))
 
   range_fills : (param : Param) → Contains params param → (range : Range) (one : Placed) → IsPieceOf it spots (RangeOwner param range) one → (point : List ℤ) → IsReady it spots path point → CanFill one.piece point
   range_fills param there range one is point ready =
@@ -162,7 +160,7 @@ module _ (it : SoundFunc) (sound : IsSound it) (spots : PathSpots) (are : AreSpo
 
         by_range : (range : Option Range) → param.range ≡ range → (placed : List Placed) → Are ((range_owner param param.range ++ flat_map (λ (param : Param). range_owner param param.range) rest) ++ later) placed → More done rest param → AreReady Known placed
         by_range None is placed all more =
-            more Known (marks_more Known Known done param (λ point known. (known, (knows.ready point known).unranged param there is)) knows) placed
+            more Known (marks_more Known Known done param (λ point known. (known, unmarked point (knows.ready point known) param there is)) knows) placed
             (subst (λ (o : Option Range). Are ((range_owner param o ++ flat_map (λ (param : Param). range_owner param param.range) rest) ++ later) placed) is all)
         by_range (Some range) is placed all more = by_placed placed (subst (λ (o : Option Range). Are ((range_owner param o ++ flat_map (λ (param : Param). range_owner param param.range) rest) ++ later) placed) is all)
           where
@@ -170,7 +168,7 @@ module _ (it : SoundFunc) (sound : IsSound it) (spots : PathSpots) (are : AreSpo
             by_placed [] all = absurd all
             by_placed (one ∷ placed) all = (
               λ point known. range_fills param there range one all.0 point (knows.ready point known),
-              more (Filled Known one) (marks_more Known (Filled Known one) done param (λ point known. (known.0, range_marked param range one all.0 point known.1)) knows) placed all.1,
+              more (Filled Known one) (marks_more Known (Filled Known one) done param (λ point known. (known.0, range_mark it spots point one known.1 param range all.0)) knows) placed all.1,
             )
 
   -- with all arguments known, the entry can begin

@@ -56,12 +56,12 @@ use Rattle.piece_values.proofs.NameLaws.{name_given, item_linear}
 use Rattle.piece_values.proofs.OperandLaws.{are_operands, are_given, op_said}
 use Rattle.piece_values.proofs.PhiLaws.{can_say, phi_said}
 
-abbrev param_name : Param → List ℕ
+abbrev pub param_name : Param → List ℕ
 param_name param = param.name
 
 -- ---- lists
 
-all_of_member : {X : Type 0} (P : X → Type 0) (xs : List X) (x : X) → AllByRecursion P xs → Contains xs x → P x
+pub all_of_member : {X : Type 0} (P : X → Type 0) (xs : List X) (x : X) → AllByRecursion P xs → Contains xs x → P x
 all_of_member P [] x all there = absurd (no_item x there)
 all_of_member {X = X} P (first ∷ xs) x all there = by_cases (all_of_member P xs x all.1) (cons_cases first xs x there)
   where
@@ -91,7 +91,7 @@ module _ (it : SoundFunc) (sound : IsSound it) (spots : PathSpots) (are : AreSpo
   said = told (told_at it spots point)
 
   -- a piece that can be read says its meaning
-  says : (one : Placed) → Contains placed one → CanSay one.piece point → value_at (vars one.piece one.first) point ≡ meaning one.piece point
+  pub says : (one : Placed) → Contains placed one → CanSay one.piece point → value_at (vars one.piece one.first) point ≡ meaning one.piece point
   says one among can =
       piece_sound one.piece one.first point (placed_at from to placed one stand among) can
       (all_of_member (λ (p : Placed). AreIn p.first (ranges p.piece) point) placed one within among)
@@ -115,7 +115,7 @@ module _ (it : SoundFunc) (sound : IsSound it) (spots : PathSpots) (are : AreSpo
     operands =
         are_operands it spots point known.numbers instr.op formed.1 linear
         (λ name width used. known.values name width (name_given it.func sound.rules block there (OfInstr instr) (instr_among block instr inside) name width used))
-        (known.constants block there instr inside)
+        (known.constants.operations block there instr inside)
 
     operation_said : said instr.name ≡ op_value said instr.op
     operation_said =
@@ -151,7 +151,7 @@ module _ (it : SoundFunc) (sound : IsSound it) (spots : PathSpots) (are : AreSpo
         known.values name phi.width (name_given it.func sound.rules phi_block (block_there it sound at low) (OfPhi phi) item name phi.width (subst (λ (o : Operand). Contains (parts_of (OfPhi phi)) (Use o phi.width)) is used))
 
     entries_const : (n : ℕ) → Contains (entries_of phi) (operand.Const n) → IsConst it spots point n
-    entries_const = known.entries phi_block (block_there it sound at low) phi inside
+    entries_const = known.constants.entries phi_block (block_there it sound at low) phi inside
 
   -- ---- along a path
 
@@ -199,7 +199,7 @@ module _ (it : SoundFunc) (sound : IsSound it) (spots : PathSpots) (are : AreSpo
 
     -- ---- arguments
 
-    name_at : (i : ℕ) → i < length it.func.params → name_vars it spots (get_or (map param_name it.func.params) i []) ≡ get_or spots.values.items i (value_vars 0 0)
+    pub name_at : (i : ℕ) → i < length it.func.params → name_vars it spots (get_or (map param_name it.func.params) i []) ≡ get_or spots.values.items i (value_vars 0 0)
     name_at i low =
         let names = map value_name (values_of it.func) in
         let named : names ≡ param_names it.func ++ flat_map block_names it.func.blocks = values_named it.func in
