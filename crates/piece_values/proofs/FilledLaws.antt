@@ -1,6 +1,7 @@
 -- At a point whose pieces lie in their ranges and hold, each name's variables are a value, and arguments are those that are given.
 use Rattle.std.proofs.Common.{◌≡◌, ◌⊎◌, inl, inr, ◌<◌, ◌≤◌, ⊎_elim, ℕ, suc, ℤ, pos, List, [], ◌∷◌, ◌++◌, length, get_or, map, Option, Some, None, refl, sym, ◌∙◌, ap, subst, arith}
-use Rattle.std.specs.Prelude.{Contains, All, zip, flat_map}
+use Rattle.std.specs.Prelude.{Contains, All, zip, flat_map, unsigned_abs}
+use Rattle.std.specs.Ordering.{int_eq}
 use Rattle.std.specs.List.{AllByRecursion}
 use Rattle.std.specs.Option.{IfSome}
 use Rattle.std.proofs.lemmas.Int.{ints}
@@ -38,7 +39,7 @@ use Rattle.piece_values.specs.Known.{AreKnown}
 use Rattle.piece_values.specs.Owners.{RangeOwner, PhiOwner, OpOwner, op_owner, owners_of, IsPieceOf, ArePiecesOf}
 use Rattle.piece_values.specs.Ready.{IsReady, IsArgument}
 use Rattle.piece_values.proofs.OrderLaws.{block_is}
-use Rattle.piece_values.proofs.OwnerLaws.{of_item, of_range, has}
+use Rattle.piece_values.proofs.OwnerLaws.{of_item, of_range, has, has_pieces}
 use Rattle.piece_values.proofs.RangeLaws.{phi_value, op_value, range_mark}
 use Rattle.piece_values.proofs.ReadyLaws.{of_some}
 use Rattle.piece_values.proofs.TellLaws.{param_name, all_of_member, name_at, says}
@@ -109,4 +110,48 @@ module _ (it : SoundFunc) (sound : IsSound it) (spots : PathSpots) (are : AreSpo
         (λ of_params. let found = map_in (λ (param : Param). (param.name, param.width)) it.func.params (name, width) of_params in as_pair (found.0.name, found.0.width) name width found.2 (param_value found.0 found.1))
         (λ of_blocks. let found = flat_in block_values it.func.blocks (name, width) of_blocks in in_block found.0 found.1 name width found.2)
         (Contains-append_cases (map (λ (param : Param). (param.name, param.width)) it.func.params) (flat_map block_values it.func.blocks) (name, width) there);
+  }
+
+  -- ---- arguments
+
+  range_said : (param : Param) → Contains it.func.params param → (range : Range) → param.range ≡ Some range → (arg : ℕ) → number_at point (name_vars it spots param.name).number ≡ pos arg → value_at (name_vars it spots param.name) point ≡ ranged (Some range) arg
+  range_said param there range is arg number =
+      let found = has it sound spots placed all (RangeOwner param range) (of_range it sound spots placed all param there range is) in
+      let one = found.0 in
+      let at = (name_vars it spots param.name).number in
+      let formed : IsFormedParam param = All-contains IsFormedParam it.func.params param sound.rules.formed.params there in
+      let fits : FitsRange param.width (Some range) = subst (FitsRange param.width) is formed.1 in
+      let can = of_some (λ (p : IrPiece). CanFill p point × CanSay p point) (range_piece (Some range) param.width at) one.piece found.2.piece (range_takes range param.width at point (ready.arguments param there)) in
+      let means = of_some (λ (p : IrPiece). meaning p point ≡ ranged_value range arg) (range_piece (Some range) param.width at) one.piece found.2.piece (range_means range param.width at arg point fits number) in
+      let said = says it sound spots are point ready.marks known placed from to stand within hold (has_pieces it sound spots placed all) one found.1 can.1 in
+      ap (λ (v : ValueVars). value_at v point) (sym found.2.stands) ∙ said ∙ means
+
+  param_said : (param : Param) → Contains it.func.params param → (range : Option Range) → param.range ≡ range → (arg : ℕ) → number_at point (name_vars it spots param.name).number ≡ pos arg → value_at (name_vars it spots param.name) point ≡ ranged param.range arg
+  param_said param there None is arg number =
+      let zero : number_at point (name_vars it spots param.name).mark ≡ pos 0 = ap (number_at point) (ready.unranged param there is) ∙ ready.numbers.zero_is in
+      (λ i. poison_if (int_eq (zero i) (pos 1)) (unsigned_abs (number i))) ∙ sym (ap (λ (o : Option Range). ranged o arg) is)
+  param_said param there (Some range) is arg number = range_said param there range is arg number ∙ sym (ap (λ (o : Option Range). ranged o arg) is)
+
+  given_one : (param : Param) → Contains it.func.params param → (arg : ℕ) (at : ValueVars) → name_vars it spots param.name ≡ at → number_at point at.number ≡ pos arg → IsGiven point ((param, arg), at)
+  given_one param there arg at same number = record {
+    mark = subst (λ (v : ValueVars). IsMark (number_at point v.mark)) same (param_mark param there param.range refl);
+    value = ap (λ (v : ValueVars). value_at v point) (sym same) ∙ param_said param there param.range refl arg (ap (λ (v : ValueVars). number_at point v.number) same ∙ number);
+  }
+
+  given_all : (params : List Param) (args : List ℕ) (values : List ValueVars) → length params ≤ length values → ((param : Param) → Contains params param → Contains it.func.params param)
+      → ((i : ℕ) → i < length params → name_vars it spots (get_or (map param_name params) i []) ≡ get_or values i (value_vars 0 0))
+      → All (IsArgument point) (zip (zip params args) values) → All (IsGiven point) (zip (zip params args) values)
+  given_all [] args values few inside stands given = All-nil (IsGiven point)
+  given_all (param ∷ params) [] values few inside stands given = All-nil (IsGiven point)
+  given_all (param ∷ params) (arg ∷ args) [] few inside stands given = absurd (omega (arith, few))
+  given_all (param ∷ params) (arg ∷ args) (at ∷ values) few inside stands given =
+      let here = All-head (IsArgument point) ((param, arg), at) (zip (zip params args) values) given in
+      All-cons (IsGiven point) ((param, arg), at) (zip (zip params args) values) (given_one param (inside param (in_here param params)) arg at (stands 0 (omega arith)) here)
+      (given_all params args values (omega (arith, few)) (λ other there. inside other (in_there param other params there)) (λ i low. stands (suc i) (omega (arith, low))) (All-tail (IsArgument point) ((param, arg), at) (zip (zip params args) values) given))
+
+  pub agrees : (args : List ℕ) → length args ≡ length it.func.params → All (IsArgument point) (zip (zip it.func.params args) spots.values.items) → AgreesWith it spots point args
+  agrees args one_each given = record {
+    one_each = one_each;
+    given = given_all it.func.params args spots.values.items are.params (λ param there. there)
+        (name_at it sound spots are point ready.marks known placed from to stand within hold (has_pieces it sound spots placed all) path ready.taken) given;
   }

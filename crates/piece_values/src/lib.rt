@@ -4,4 +4,7 @@
 
 mod laws;
 
-pub use laws::{pieces_can_be_filled_in_their_order, pieces_tell_the_values_along_a_path};
+pub use laws::{
+    filled_points_are_known, pieces_can_be_filled_in_their_order,
+    pieces_tell_the_values_along_a_path,
+};
