@@ -2,21 +2,21 @@ mod CaseDiffer
 mod CountLaws
 mod FillLaws
 mod FlowLaws
-mod GraphLaws
+pub mod GraphLaws
 mod HoldLaws
 mod KnownLaws
 mod LaidLaws
 mod LayingLaws
 mod LeadLaws
-mod MarkSums
-mod MemberLaws
+pub mod MarkSums
+pub mod MemberLaws
 mod NumberLaws
 mod OnePathLaws
 mod PairLaws
 mod ReadPathLaws
 mod ResolvedLaws
 mod ReturnLaws
-mod StepsLaws
+pub mod StepsLaws
 mod TakenLaws
 mod TargetLaws
 mod VisitLaws

@@ -1,0 +1,3 @@
+mod AddLaws
+pub mod ConstantLaws
+mod CountLaws

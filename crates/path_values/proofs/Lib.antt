@@ -1,0 +1,4 @@
+pub mod KeptLaws
+pub mod WayLaws
+pub mod ValueLaws
+pub mod WalkLaws

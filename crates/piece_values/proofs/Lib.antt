@@ -1,0 +1,12 @@
+mod AgreeLaws
+mod EdgeLaws
+mod FilledLaws
+mod NameLaws
+mod OperandLaws
+mod OrderLaws
+mod OwnerLaws
+mod PhiLaws
+mod RangeLaws
+mod ReadyLaws
+mod ReadyListLaws
+mod TellLaws

@@ -1,0 +1,4 @@
+pub mod Known
+pub mod Owners
+pub mod Pieces
+pub mod Ready
