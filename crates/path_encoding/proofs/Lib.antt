@@ -2,21 +2,29 @@ mod CaseDiffer
 mod CountLaws
 mod FillLaws
 mod FlowLaws
-mod GraphLaws
+pub mod GraphLaws
 mod HoldLaws
 mod KnownLaws
 mod LaidLaws
 mod LayingLaws
 mod LeadLaws
-mod MarkSums
-mod MemberLaws
+mod LitLaws
+mod LittleLaws
+pub mod MarkSums
+pub mod MemberLaws
 mod NumberLaws
 mod OnePathLaws
+mod OrderSums
 mod PairLaws
+pub mod PathMarks
+mod PutCaseLaws
+mod PutLaws
+mod PutPathLaws
 mod ReadPathLaws
 mod ResolvedLaws
 mod ReturnLaws
-mod StepsLaws
+mod StepTests
+pub mod StepsLaws
 mod TakenLaws
 mod TargetLaws
 mod VisitLaws
