@@ -17,7 +17,7 @@ before_more it at =
     let same : 0 + at ≡ at = omega arith in
     ap (sum_by (cases_in it)) (range_more 0 at ∙ ap (λ (n : ℕ). range_with_len 0 at ++ n ∷ []) same) ∙ sum_by_push (cases_in it) (range_with_len 0 at) at
 
-before_le : (it : SoundFunc) (at blocks : ℕ) → at ≤ blocks → cases_before it at ≤ cases_before it blocks
+pub before_le : (it : SoundFunc) (at blocks : ℕ) → at ≤ blocks → cases_before it at ≤ cases_before it blocks
 before_le it at blocks low =
     let part = sum_by-take-le (cases_in it) (range_with_len 0 blocks) at in
     let same = ap (sum_by (cases_in it)) (take_range 0 blocks at low) in

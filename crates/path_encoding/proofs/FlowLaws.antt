@@ -79,10 +79,10 @@ module _ (p : ℕ → Bool) (f : ℕ → List Part) (n : ℕ) where
   kept_rows_same fails =
       ap (λ (numbers : List ℕ). map row_of (map f numbers)) (kept_more ∙ ap (λ (b : Bool). filter p (range_with_len 0 n) ++ cond b (n ∷ []) []) fails ∙ append-nil (filter p (range_with_len 0 n)))
 
-filter_few : (p : ℕ → Bool) (xs : List ℕ) → length (filter p xs) ≤ length xs
+pub filter_few : {X : Type 0} (p : X → Bool) (xs : List X) → length (filter p xs) ≤ length xs
 filter_few p [] = omega arith
-filter_few p (x ∷ xs) =
-    cond_both (p x) (x ∷ filter p xs) (filter p xs) (λ (list : List ℕ). length list ≤ length (x ∷ xs)) (λ _. omega (arith, filter_few p xs)) (λ _. omega (arith, filter_few p xs))
+filter_few {X = X} p (x ∷ xs) =
+    cond_both (p x) (x ∷ filter p xs) (filter p xs) (λ (list : List X). length list ≤ length (x ∷ xs)) (λ _. omega (arith, filter_few p xs)) (λ _. omega (arith, filter_few p xs))
 
 -- so many rows at most
 pub in_count : (it : SoundFunc) (spots : PathSpots) → length (in_rows it spots) ≡ length it.flow.order - 1

@@ -8,14 +8,22 @@ mod KnownLaws
 mod LaidLaws
 mod LayingLaws
 mod LeadLaws
+mod LitLaws
+mod LittleLaws
 pub mod MarkSums
 pub mod MemberLaws
 mod NumberLaws
 mod OnePathLaws
+mod OrderSums
 mod PairLaws
+pub mod PathMarks
+mod PutCaseLaws
+mod PutLaws
+mod PutPathLaws
 mod ReadPathLaws
 mod ResolvedLaws
 mod ReturnLaws
+mod StepTests
 pub mod StepsLaws
 mod TakenLaws
 mod TargetLaws

@@ -1,5 +1,6 @@
 pub mod Agree
 pub mod Ends
+pub mod Filled
 pub mod FlowRows
 pub mod PathLayout
 pub mod Paths

@@ -1,5 +1,5 @@
 -- Where blocks, edges, cases and values of a function lie in a system.
-use Rattle.std.specs.Prelude.{◌≡◌, ◌==◌, ◌&&◌, ◌<◌, ◌≤◌, ◌+◌, ◌^◌, ℕ, Bool, nat_le, if◌then◌else◌, List, [], length, map, zip, drop, All, sum_by, slice_index, slice_index_or}
+use Rattle.std.specs.Prelude.{◌≡◌, ◌≢◌, ◌==◌, ◌&&◌, ◌<◌, ◌≤◌, ◌+◌, ◌++◌, ◌^◌, ℕ, Bool, nat_le, if◌then◌else◌, List, [], length, map, zip, drop, All, AllPairs, Contains, sum_by, slice_index, slice_index_or}
 use Rattle.std.specs.Option.{unwrap_or}
 use Rattle.std.specs.List.{range_with_len}
 use Rattle.std.specs.Map.{lookup}
@@ -123,3 +123,10 @@ pub record Exist (vars : ℕ) (spots : PathSpots) : Type 0 where
   pub cases : All (λ var. var < vars) spots.cases.items
   pub values : All (λ value. (value.number < vars) × (value.mark < vars)) spots.values.items
   pub constants : All (λ spot. spot.var < vars) spots.constants.items
+
+-- No two of the blocks, edges and cases have one variable, and a case's is none of a number, a value or a constant.
+pub record AreApart (spots : PathSpots) : Type 0 where
+  pub paths : AllPairs (λ var other. var ≢ other) (spots.blocks.items ++ (spots.edges.items ++ spots.cases.items))
+  pub numbers : All (λ var. 2 ≤ var) spots.cases.items
+  pub values : All (λ value. ¬ Contains spots.cases.items value.number) spots.values.items
+  pub constants : All (λ spot. ¬ Contains spots.cases.items spot.var) spots.constants.items

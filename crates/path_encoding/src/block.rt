@@ -16,8 +16,8 @@ use std::alloc::Global;
 use wrap_rows::{ValueVars, add_lits};
 use wx_base::NoMemory;
 
-/// Adds the clauses of the block at a position: of its assumes, then of its terminator. The variables of
-/// its cases stand first among these.
+/// Adds the clauses of the block at a position: of its assumes, then of its terminator. The
+/// variables of its cases stand first among these.
 ///
 /// After want of memory some of the clauses may stand.
 pub fn add_block(

@@ -52,8 +52,8 @@ pub fn add_end(
     Ok(())
 }
 
-// What the terminator of a block names.
-fn end_links<'a>(sound: &'a Sound, at: u32, place: BlockId, block: &Block) -> Links<'a>
+/// What the terminator of a block names. It takes no memory.
+pub fn end_links<'a>(sound: &'a Sound, at: u32, place: BlockId, block: &Block) -> Links<'a>
     requires { IsBlock sound.now at place.0 block.now }
     ensures sources { result.sources.now
         ≡ map (source_at sound.now.func) (end_operands block.now.end) }

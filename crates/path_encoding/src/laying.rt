@@ -1,23 +1,23 @@
 ghost use Rattle.std.specs.Prelude.{◌≡◌, ◌+◌, ◌*◌, ◌^◌, ◌<◌, ◌≤◌, ◌++◌, map, flat_map, zip, length, true, All, OnOk};
 ghost use Rattle.wrap_rows.specs.Normal.{clause_of};
 ghost use Rattle.wrap_rows.specs.Piece.{Lays, names_own_rows};
-ghost use Rattle.path_encoding.specs.Spots.{AreSpotsOf, Exist, cases_of};
+ghost use Rattle.path_encoding.specs.Spots.{AreSpotsOf, Exist};
 ghost use Rattle.path_encoding.specs.PathLayout.{strict_clauses, start_clauses, visit_clauses, path_layout};
 
 use crate::PathSpots;
 use crate::block::add_block;
 use crate::lits::{is_off, is_on};
-use crate::place::{block_in, place_at};
+use crate::place::{block_in, case_count, place_at};
 use crate::rows::{add_flow_clauses, add_in_rows, add_out_rows};
-use ll_tree::{End, Param};
+use ll_tree::Param;
 use ll_verifier::Sound;
 use mix_system::System;
 use std::alloc::Global;
 use wrap_rows::{ValueVars, add_lits};
 use wx_base::NoMemory;
 
-/// Adds the rows of flow and the clauses of the function's paths. The spots are the function's, and their
-/// variables exist. The clauses name no other rows.
+/// Adds the rows of flow and the clauses of the function's paths. The spots are the function's, and
+/// their variables exist. The clauses name no other rows.
 ///
 /// After want of memory some of them may stand.
 pub fn lay(
@@ -122,17 +122,4 @@ fn add_visits(
         before += count;
     }
     Ok(())
-}
-
-fn case_count(end: &End) -> usize
-    ensures { result ≡ length (cases_of end.now) }
-{
-    match end {
-        End::Switch { cases, .. } => cases.items().len(),
-        End::RetVoid => 0,
-        End::Ret { .. } => 0,
-        End::Br { .. } => 0,
-        End::CondBr { .. } => 0,
-        End::Unreachable => 0,
-    }
 }

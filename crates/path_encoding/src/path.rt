@@ -13,8 +13,8 @@ use wx_base::NoMemory;
 
 /// The path that a point takes, by positions in the kept order, from the entry to an end.
 ///
-/// The spots are the function's, blocks and edges are 0 or 1, and the layout of paths holds. The time is that
-/// of one look at all edges for each block of the path.
+/// The spots are the function's, blocks and edges are 0 or 1, and the layout of paths holds. The
+/// time is that of one look at all edges for each block of the path.
 pub fn path_at(
     alloc: Global,
     sound: &Sound,

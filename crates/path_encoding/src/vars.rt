@@ -66,8 +66,8 @@ pub fn block_named(blocks: &[BlockId], at: usize) -> BlockId
     }
 }
 
-/// The variable of the edge from the block at a position to another. It takes no memory, and time by the
-/// count of edges.
+/// The variable of the edge from the block at a position to another. It takes no memory, and time
+/// by the count of edges.
 pub fn edge_to(sound: &Sound, spots: &PathSpots, at: u32, to: BlockId) -> u32
     requires { length spots.now.edges.items ≡ length sound.now.flow.edges }
     ensures { result ≡ spec.edge_to sound.now spots.now at to.0 }

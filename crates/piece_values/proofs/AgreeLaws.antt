@@ -28,7 +28,7 @@ use Rattle.path_encoding.specs.Spots.{operand_vars, block_at}
 use Rattle.path_encoding.specs.Agree.{Agrees, AllAgree, assume_parts, AgreesOn}
 use Rattle.point_runs.specs.Told.{told_at}
 use Rattle.point_runs.proofs.BlocksLaws.{block_there}
-use Rattle.piece_values.specs.Pieces.{operand_of}
+use Rattle.value_pieces.specs.Pieces.{operand_of}
 use Rattle.piece_values.specs.Known.{IsConst, AreKnown}
 use Rattle.piece_values.proofs.NameLaws.{name_given}
 use Rattle.piece_values.proofs.OperandLaws.{is_operand, operand_said, read_of}

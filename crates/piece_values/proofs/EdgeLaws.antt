@@ -23,7 +23,7 @@ use Rattle.path_encoding.proofs.MarkSums.{AreApart}
 use Rattle.path_encoding.proofs.MemberLaws.{kept, passes_of, member_of}
 use Rattle.path_encoding.proofs.GraphLaws.{apart_pairs, apart_kept, edges_apart, var_of, single, leads_on}
 use Rattle.path_encoding.proofs.StepsLaws.{step_has, one_from}
-use Rattle.piece_values.specs.Pieces.{edges_into}
+use Rattle.value_pieces.specs.Pieces.{edges_into}
 
 abbrev VarEdge : Type 0
 VarEdge = PositionEdge × ℕ

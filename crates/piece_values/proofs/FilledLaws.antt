@@ -34,7 +34,7 @@ use Rattle.ir_pieces.proofs.RangeLaws.{range_takes, range_means}
 use Rattle.path_encoding.specs.declared.spots.PathSpots.{PathSpots}
 use Rattle.path_encoding.specs.Spots.{value_vars, block_at, AreSpotsOf}
 use Rattle.path_encoding.specs.Agree.{IsGiven, AgreesWith}
-use Rattle.piece_values.specs.Pieces.{name_vars}
+use Rattle.value_pieces.specs.Pieces.{name_vars}
 use Rattle.piece_values.specs.Known.{AreKnown}
 use Rattle.piece_values.specs.Owners.{RangeOwner, PhiOwner, OpOwner, op_owner, owners_of, IsPieceOf, ArePiecesOf}
 use Rattle.piece_values.specs.Ready.{IsReady, IsArgument}

@@ -27,7 +27,7 @@ use Rattle.ir_pieces.specs.Choice.{literal_of, given_value, value_of, computed, 
 use Rattle.path_encoding.specs.declared.spots.PathSpots.{PathSpots}
 use Rattle.path_encoding.specs.Spots.{operand_vars}
 use Rattle.point_runs.specs.Told.{told_at}
-use Rattle.piece_values.specs.Pieces.{operand_of, operands_of, name_vars}
+use Rattle.value_pieces.specs.Pieces.{operand_of, operands_of, name_vars}
 use Rattle.piece_values.specs.Known.{IsConst}
 
 -- an operand reads as its variables do

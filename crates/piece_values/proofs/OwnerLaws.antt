@@ -18,7 +18,8 @@ use Rattle.ir_pieces.specs.Choice.{piece_of}
 use Rattle.path_encoding.specs.declared.spots.PathSpots.{PathSpots}
 use Rattle.path_encoding.specs.Spots.{block_at}
 use Rattle.path_encoding.proofs.GraphLaws.{counted}
-use Rattle.piece_values.specs.Pieces.{operands_of, name_vars, IsPhiPiece, Has, HasPieces}
+use Rattle.value_pieces.specs.Pieces.{operands_of, name_vars, IsPhiPiece}
+use Rattle.piece_values.specs.Pieces.{Has, HasPieces}
 use Rattle.piece_values.specs.Owners.{Owner, RangeOwner, PhiOwner, OpOwner, range_owner, op_owner, item_owner, block_owners, owners_of, StandsAs, IsPieceOf, ArePiecesOf}
 use Rattle.piece_values.proofs.OrderLaws.{block_is}
 

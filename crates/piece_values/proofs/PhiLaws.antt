@@ -37,7 +37,7 @@ use Rattle.path_encoding.proofs.MemberLaws.{second_in}
 use Rattle.path_encoding.proofs.GraphLaws.{edge_of}
 use Rattle.point_runs.proofs.BlocksLaws.{label_is, block_there}
 use Rattle.point_runs.specs.Told.{told_at}
-use Rattle.piece_values.specs.Pieces.{operand_of, name_vars, incoming_of, edges_into}
+use Rattle.value_pieces.specs.Pieces.{operand_of, name_vars, incoming_of, edges_into}
 use Rattle.piece_values.specs.Known.{IsConst}
 use Rattle.piece_values.proofs.OperandLaws.{is_operand, operand_said, read_of}
 use Rattle.piece_values.proofs.EdgeLaws.{into_here, into_apart, at_most_one, taken_edge, one_edge, one_taken}

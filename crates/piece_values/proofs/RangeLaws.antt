@@ -30,7 +30,7 @@ use Rattle.ll_tree.specs.declared.block.Phi.{Phi}
 use Rattle.ll_tree.specs.declared.block.Instr.{Instr}
 use Rattle.ll_verifier.specs.Sound.{SoundFunc}
 use Rattle.path_encoding.specs.declared.spots.PathSpots.{PathSpots}
-use Rattle.piece_values.specs.Pieces.{operands_of, name_vars}
+use Rattle.value_pieces.specs.Pieces.{operands_of, name_vars}
 use Rattle.piece_values.specs.Owners.{RangeOwner, PhiOwner, OpOwner, IsPieceOf}
 use Rattle.ir_pieces.specs.Choice.{constant_of, operand_at, scaled_piece, product_by, shifted_out, right_kind, right_piece, bin_piece, cast_piece, piece_of}
 

@@ -41,7 +41,7 @@ use Rattle.ir_pieces.proofs.ChoiceLaws.{takes}
 use Rattle.path_encoding.specs.declared.spots.PathSpots.{PathSpots}
 use Rattle.path_encoding.specs.Spots.{block_at, AreSpotsOf}
 use Rattle.point_runs.proofs.BlocksLaws.{block_there}
-use Rattle.piece_values.specs.Pieces.{operands_of, name_vars}
+use Rattle.value_pieces.specs.Pieces.{operands_of, name_vars}
 use Rattle.piece_values.specs.Owners.{PhiOwner, OpOwner, IsPieceOf}
 use Rattle.piece_values.specs.Ready.{IsReady}
 use Rattle.piece_values.proofs.NameLaws.{name_given, item_linear}

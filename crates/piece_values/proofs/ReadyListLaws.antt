@@ -26,7 +26,7 @@ use Rattle.ir_pieces.specs.Choice.{range_piece}
 use Rattle.ir_pieces.proofs.RangeLaws.{range_takes}
 use Rattle.path_encoding.specs.declared.spots.PathSpots.{PathSpots}
 use Rattle.path_encoding.specs.Spots.{block_at, AreSpotsOf}
-use Rattle.piece_values.specs.Pieces.{name_vars}
+use Rattle.value_pieces.specs.Pieces.{name_vars}
 use Rattle.piece_values.specs.Owners.{Owner, RangeOwner, OpOwner, range_owner, op_owner, item_owner, block_owners, IsPieceOf, ArePiecesOf}
 use Rattle.piece_values.specs.Ready.{IsReady}
 use Rattle.piece_values.proofs.RangeLaws.{range_mark}

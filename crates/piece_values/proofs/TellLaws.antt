@@ -50,7 +50,8 @@ use Rattle.path_encoding.specs.Paths.{Steps, IsTaken, AreMarks}
 use Rattle.path_encoding.specs.Agree.{IsGiven, AgreesWith, blocks_on}
 use Rattle.point_runs.specs.Told.{told_at}
 use Rattle.point_runs.proofs.BlocksLaws.{path_low, label_is, block_there, begins}
-use Rattle.piece_values.specs.Pieces.{operands_of, name_vars, HasPieces}
+use Rattle.value_pieces.specs.Pieces.{operands_of, name_vars}
+use Rattle.piece_values.specs.Pieces.{HasPieces}
 use Rattle.piece_values.specs.Known.{IsConst, AreKnown}
 use Rattle.piece_values.proofs.NameLaws.{name_given, item_linear}
 use Rattle.piece_values.proofs.OperandLaws.{are_operands, are_given, op_said}

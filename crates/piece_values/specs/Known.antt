@@ -13,7 +13,7 @@ use Rattle.ir_constants.specs.Counted.{counted, entries_of}
 use Rattle.ir_pieces.specs.Choice.{AreNumbers}
 use Rattle.path_encoding.specs.declared.spots.PathSpots.{PathSpots}
 use Rattle.path_encoding.specs.Spots.{operand_vars}
-use Rattle.piece_values.specs.Pieces.{name_vars}
+use Rattle.value_pieces.specs.Pieces.{name_vars}
 
 -- the number of a constant stands at its variable
 abbrev pub IsConst : SoundFunc → PathSpots → List ℤ → ℕ → Type 0

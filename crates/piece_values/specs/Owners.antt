@@ -13,7 +13,7 @@ use Rattle.ir_pieces.specs.Pieces.{vars}
 use Rattle.ir_pieces.specs.Choice.{piece_of, range_piece}
 use Rattle.path_encoding.specs.declared.spots.PathSpots.{PathSpots}
 use Rattle.path_encoding.specs.Spots.{block_at}
-use Rattle.piece_values.specs.Pieces.{operands_of, name_vars, IsPhiPiece}
+use Rattle.value_pieces.specs.Pieces.{operands_of, name_vars, IsPhiPiece}
 
 -- what has a piece: a parameter with a range, a phi of the block at a position, an instruction with a result
 pub data Owner : Type 0 where

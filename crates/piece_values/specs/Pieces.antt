@@ -1,4 +1,4 @@
--- The pieces of a function's values, by the variables of its blocks, edges and values.
+-- That a list has the pieces of a function's operations and phis.
 use Rattle.std.specs.Prelude.{◌≡◌, ◌==◌, ◌<◌, ℕ, List, length, map, filter, Contains, Some}
 use Rattle.std.specs.Option.{unwrap_or}
 use Rattle.ll_tree.specs.declared.block.Block.{Block}
@@ -22,41 +22,8 @@ use Rattle.ir_pieces.specs.declared.list.Placed.{Placed}
 use Rattle.ir_pieces.specs.Pieces.{vars}
 use Rattle.ir_pieces.specs.Choice.{literal_of, piece_of}
 use Rattle.path_encoding.specs.declared.spots.PathSpots.{PathSpots}
-use Rattle.path_encoding.specs.Spots.{operand_vars, block_at, edge_vars}
-
--- ---- operands
-
-abbrev pub operand_of : SoundFunc → PathSpots → Operand → BitOperand
-operand_of it spots operand = record { vars = operand_vars it spots operand; literal = literal_of operand }
-
-abbrev pub operands_of : SoundFunc → PathSpots → Op → List BitOperand
-operands_of it spots op = map (operand_of it spots) (op_operands op)
-
--- the variables of a name
-abbrev pub name_vars : SoundFunc → PathSpots → List ℕ → ValueVars
-name_vars it spots name = operand_vars it spots (operand.Name name)
-
--- ---- phis
-
--- an edge into the block of a phi, with the operand for its source
-abbrev pub incoming_of : SoundFunc → PathSpots → Phi → PositionEdge × ℕ → Incoming
-incoming_of it spots phi edge = record {
-  edge = edge.1;
-  value = operand_vars it spots (unwrap_or (operand_for (label_at it edge.0.from.0) phi) operand.Poison);
-}
-
--- the edges into the block at a position, with their variables
-abbrev pub edges_into : SoundFunc → PathSpots → ℕ → List (PositionEdge × ℕ)
-edges_into it spots at = filter (λ edge. edge.0.to.0 == at) (edge_vars it spots)
-
--- the piece of a phi of the block at a position
-pub record IsPhiPiece (it : SoundFunc) (spots : PathSpots) (at : ℕ) (phi : Phi) (piece : IrPiece) : Type 0 where
-  pub of : PhiPiece
-  pub is : piece ≡ kind.Phi of
-  pub width : of.width ≡ phi.width
-  pub incoming : of.incoming.items ≡ map (incoming_of it spots phi) (edges_into it spots at)
-
--- ---- which pieces there are
+use Rattle.path_encoding.specs.Spots.{block_at}
+use Rattle.value_pieces.specs.Pieces.{operands_of, name_vars, IsPhiPiece}
 
 -- one of the pieces has its value at these variables
 pub record Has (placed : List Placed) (at : ValueVars) (Is : IrPiece → Type 0) : Type 0 where

@@ -13,7 +13,7 @@ use Rattle.ir_constants.specs.Counted.{counted, entries_of}
 use Rattle.ir_pieces.specs.Choice.{AreNumbers}
 use Rattle.path_encoding.specs.declared.spots.PathSpots.{PathSpots}
 use Rattle.path_encoding.specs.Paths.{AreMarks, IsTaken}
-use Rattle.piece_values.specs.Pieces.{name_vars}
+use Rattle.value_pieces.specs.Pieces.{name_vars}
 use Rattle.piece_values.specs.Known.{HasConstants}
 
 -- The numbers 0 and 1, the constants, the arguments' numbers, with the mark 0 where a parameter has no range, and a path that is taken.
