@@ -1,12 +1,12 @@
 mod AgreeLaws
 mod EdgeLaws
-mod FilledLaws
+pub mod FilledLaws
 mod NameLaws
 mod OperandLaws
 mod OrderLaws
-mod OwnerLaws
+pub mod OwnerLaws
 mod PhiLaws
 mod RangeLaws
 mod ReadyLaws
 mod ReadyListLaws
-mod TellLaws
+pub mod TellLaws
