@@ -16,7 +16,8 @@ pub fn cycle_from(
     taken: &[bool],
     start: u32,
 ) -> Result<Vec<u32>, NoMemory>
-    requires within { All (λ edge. (edge.from < length taken.now) × (edge.to < length taken.now)) edges.now }
+    requires within { All (λ edge. (edge.from < length taken.now)
+        × (edge.to < length taken.now)) edges.now }
     requires stuck { IsStuck edges.now taken.now }
     requires start { start < length taken.now }
     requires left { slice_index_or taken.now start false ≡ false }
@@ -37,7 +38,8 @@ fn walk_back(
     taken: &[bool],
     start: u32,
 ) -> Result<(Vec<u32>, u32), NoMemory>
-    requires within { All (λ edge. (edge.from < length taken.now) × (edge.to < length taken.now)) edges.now }
+    requires within { All (λ edge. (edge.from < length taken.now)
+        × (edge.to < length taken.now)) edges.now }
     requires stuck { IsStuck edges.now taken.now }
     requires start { start < length taken.now }
     requires left { slice_index_or taken.now start false ≡ false }
@@ -57,8 +59,10 @@ fn walk_back(
 
 // A predecessor that isn't taken.
 fn left_before(edges: &[Edge], taken: &[bool], at: u32) -> u32
-    requires within { All (λ edge. (edge.from < length taken.now) × (edge.to < length taken.now)) edges.now }
-    requires exists { (from : ℕ) × HasEdge edges.now from at × (slice_index_or taken.now from false ≡ false) }
+    requires within { All (λ edge. (edge.from < length taken.now)
+        × (edge.to < length taken.now)) edges.now }
+    requires exists { (from : ℕ) × HasEdge edges.now from at
+        × (slice_index_or taken.now from false ≡ false) }
     ensures edge { HasEdge edges.now result at }
     ensures left { slice_index_or taken.now result false ≡ false }
 {

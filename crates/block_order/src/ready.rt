@@ -6,7 +6,8 @@ use flow_graph::Edge;
 /// The least block that isn't taken and whose predecessors all are; `None` exactly where each block that
 /// isn't taken has such a predecessor. `blocked` is room for work.
 pub fn next_ready(edges: &[Edge], taken: &[bool], blocked: &mut [bool]) -> Option<u32>
-    requires within { All (λ edge. (edge.from < length taken.now) × (edge.to < length taken.now)) edges.now }
+    requires within { All (λ edge. (edge.from < length taken.now)
+        × (edge.to < length taken.now)) edges.now }
     requires room { length blocked.old ≡ length taken.now }
     requires few { length taken.now < 2 ^ 32 }
     ensures { MatchOption result (IsStuck edges.now taken.now) (IsFirstFree edges.now taken.now) }
@@ -17,7 +18,8 @@ pub fn next_ready(edges: &[Edge], taken: &[bool], blocked: &mut [bool]) -> Optio
 
 // Marks the blocks that have a predecessor which isn't taken.
 fn mark_blocked(edges: &[Edge], taken: &[bool], blocked: &mut [bool])
-    requires within { All (λ edge. (edge.from < length taken.now) × (edge.to < length taken.now)) edges.now }
+    requires within { All (λ edge. (edge.from < length taken.now)
+        × (edge.to < length taken.now)) edges.now }
     requires room { length blocked.old ≡ length taken.now }
     ensures { AreBlocked edges.now taken.now blocked.new }
 {
@@ -33,7 +35,8 @@ fn mark_blocked(edges: &[Edge], taken: &[bool], blocked: &mut [bool])
 fn first_open(taken: &[bool], blocked: &[bool]) -> Option<u32>
     requires same { length blocked.now ≡ length taken.now }
     requires few { length taken.now < 2 ^ 32 }
-    ensures { MatchOption result ((block : ℕ) → block < length taken.now → ¬ IsTakeable taken.now blocked.now block)
+    ensures { MatchOption result
+        ((block : ℕ) → block < length taken.now → ¬ IsTakeable taken.now blocked.now block)
         (IsFirstOpen taken.now blocked.now) }
 {
     for block in 0..taken.len() {
@@ -47,7 +50,8 @@ fn first_open(taken: &[bool], blocked: &[bool]) -> Option<u32>
 /// The first block that isn't taken.
 pub fn first_false(taken: &[bool]) -> Option<u32>
     requires { length taken.now < 2 ^ 32 }
-    ensures { MatchOption result ((block : ℕ) → block < length taken.now → slice_index_or taken.now block false ≡ true)
+    ensures { MatchOption result
+        ((block : ℕ) → block < length taken.now → slice_index_or taken.now block false ≡ true)
         (λ block. (block < length taken.now) × (slice_index_or taken.now block false ≡ false)) }
 {
     for block in 0..taken.len() {

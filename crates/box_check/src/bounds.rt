@@ -250,7 +250,8 @@ impl Bounds {
 
     #[tactic(auto, using(std::proofs::lemmas::List::set_past))]
     fn restore(&mut self, change: Change)
-        ensures ends { self.new.ends.items ≡ slice_set self.old.ends.items change.slot change.before }
+        ensures ends { self.new.ends.items
+            ≡ slice_set self.old.ends.items change.slot change.before }
         ensures changes { self.new.changes.items ≡ self.old.changes.items }
         ensures vars { self.new.vars ≡ self.old.vars }
         ensures level { self.new.level ≡ self.old.level }

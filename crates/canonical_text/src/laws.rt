@@ -47,7 +47,8 @@ pub fn canonical_text_spells_its_tree()
 /// The canonical text of a tree that the tokens of a text spell has tokens that spell it too. The brace that
 /// closes it stands behind both texts.
 pub fn canonical_text_is_read_back()
-    ensures { (text : List ℕ) (line again_line before again_before : ℕ) (tokens : List Token) (func : Func)
+    ensures { (text : List ℕ) (line again_line before again_before : ℕ)
+        (tokens : List Token) (func : Func)
         → AreBytes text → length text < 2 ^ 64
         → AreTokens text line tokens → SpellsFunction func (seen text before tokens)
         → (again : List Token) × AreTokens (written (open_pieces func)) again_line again

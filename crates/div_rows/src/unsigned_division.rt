@@ -140,7 +140,8 @@ impl UnsignedDivision {
             (limit_clauses self.now.kind self.now first) < 2 ^ 31 }
         ensures { OnOk result (into.new ≡ record into.old {
           clauses =
-              into.old.clauses ++ map (clause_from row) (limit_clauses self.now.kind self.now first);
+              into.old.clauses
+              ++ map (clause_from row) (limit_clauses self.now.kind self.now first);
         }) }
     {
         match self.kind {

@@ -18,7 +18,10 @@ impl<T> Model for FlatLists<T> {
 
     ghost Value = { List (List T) × List T };
 
-    ghost view = { λ it. (pieces 0 it.ends.items it.items.items, drop (last_end 0 it.ends.items) it.items.items) };
+    ghost view = { λ it. (
+      pieces 0 it.ends.items it.items.items,
+      drop (last_end 0 it.ends.items) it.items.items,
+    ) };
 
     ghost invariant = { λ it. AreEnds 0 it.ends.items (length it.items.items) };
 }

@@ -34,7 +34,8 @@ pub fn path_to(
 // A marked block with an edge to this one, around which paths may go.
 fn before(edges: &[Edge], without: u32, reached: &[bool], at: u32) -> u32
     requires forward { IsForward (length reached.now) edges.now }
-    requires exists { (from : ℕ) × HasEdge edges.now from at × (from ≢ without) × (slice_index_or reached.now from false ≡ true) }
+    requires exists { (from : ℕ) × HasEdge edges.now from at × (from ≢ without)
+        × (slice_index_or reached.now from false ≡ true) }
     ensures edge { HasEdge edges.now result at }
     ensures around { result ≢ without }
     ensures marked { slice_index_or reached.now result false ≡ true }

@@ -23,7 +23,8 @@ pub fn positions_of(alloc: Global, order: &[u32]) -> Result<Places, NoMemory>
 
 /// The edges by positions, each pair once, sorted.
 pub fn edges_of(alloc: Global, graph: &[Edge], positions: &[u32]) -> Result<Edges, NoMemory>
-    requires { All (λ edge. (edge.from < length positions.now) × (edge.to < length positions.now)) graph.now }
+    requires { All (λ edge. (edge.from < length positions.now)
+        × (edge.to < length positions.now)) graph.now }
     ensures sorted { IfOk result AreSorted }
     ensures same { IfOk result (AreSame (map (renumbered positions.now) graph.now)) }
 {
@@ -32,7 +33,8 @@ pub fn edges_of(alloc: Global, graph: &[Edge], positions: &[u32]) -> Result<Edge
 }
 
 fn by_positions(alloc: Global, graph: &[Edge], positions: &[u32]) -> Result<Vec<Edge>, NoMemory>
-    requires { All (λ edge. (edge.from < length positions.now) × (edge.to < length positions.now)) graph.now }
+    requires { All (λ edge. (edge.from < length positions.now)
+        × (edge.to < length positions.now)) graph.now }
     ensures { IfOk result (λ edges. edges.items ≡ map (renumbered positions.now) graph.now) }
 {
     let edges = graph

@@ -82,7 +82,8 @@ fn push_params<'a>(list: &mut NameList<'a>, params: &'a [Param]) -> Result<(), N
 }
 
 fn push_block<'a>(list: &mut NameList<'a>, block: &'a Block) -> Result<(), NoMemory>
-    ensures { OnOk result (list.new ≡ list.old ++ block.now.label ∷ map (λ value. value.0) (spec.block_values block.now)) }
+    ensures { OnOk result (list.new
+        ≡ list.old ++ block.now.label ∷ map (λ value. value.0) (spec.block_values block.now)) }
 {
     list.push(block.label.bytes())?;
     push_phis(list, block.phis.items())?;
@@ -99,7 +100,8 @@ fn push_phis<'a>(list: &mut NameList<'a>, phis: &'a [Phi]) -> Result<(), NoMemor
 }
 
 fn push_results<'a>(list: &mut NameList<'a>, body: &'a [Instr]) -> Result<(), NoMemory>
-    ensures { OnOk result (list.new ≡ list.old ++ map (λ value. value.0) (flat_map (λ instr. spec.named instr.name (spec.result_width instr.op)) body.now)) }
+    ensures { OnOk result (list.new ≡ list.old ++ map (λ value. value.0)
+        (flat_map (λ instr. spec.named instr.name (spec.result_width instr.op)) body.now)) }
 {
     for instr in body {
         push_result(list, instr)?;
@@ -108,7 +110,8 @@ fn push_results<'a>(list: &mut NameList<'a>, body: &'a [Instr]) -> Result<(), No
 }
 
 fn push_result<'a>(list: &mut NameList<'a>, instr: &'a Instr) -> Result<(), NoMemory>
-    ensures { OnOk result (list.new ≡ list.old ++ map (λ value. value.0) (spec.named instr.now.name (spec.result_width instr.now.op))) }
+    ensures { OnOk result (list.new ≡ list.old
+        ++ map (λ value. value.0) (spec.named instr.now.name (spec.result_width instr.now.op))) }
 {
     match &instr.op {
         Op::Assume { .. } => Ok(()),

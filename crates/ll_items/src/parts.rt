@@ -83,7 +83,8 @@ fn push_entries<'a>(
     width: u32,
     entries: &'a [PhiEntry],
 ) -> Result<(), NoMemory>
-    ensures { OnOk result (parts.new ≡ parts.old ++ flat_map (λ entry. items.Use entry.value width ∷ items.Goal entry.from ∷ []) entries.now) }
+    ensures { OnOk result (parts.new ≡ parts.old
+        ++ flat_map (λ entry. items.Use entry.value width ∷ items.Goal entry.from ∷ []) entries.now) }
 {
     for entry in entries {
         parts.push(PartRef::Use {
@@ -166,7 +167,8 @@ fn push_pair<'a>(
     left: &'a Operand,
     right: &'a Operand,
 ) -> Result<(), NoMemory>
-    ensures { OnOk result (parts.new ≡ parts.old ++ items.Use left.now width ∷ items.Use right.now width ∷ []) }
+    ensures { OnOk result (parts.new
+        ≡ parts.old ++ items.Use left.now width ∷ items.Use right.now width ∷ []) }
 {
     push_use(parts, width, left)?;
     push_use(parts, width, right)

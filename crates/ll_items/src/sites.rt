@@ -115,7 +115,8 @@ fn push_body<'a>(
     body: &'a [Instr],
 ) -> Result<(), NoMemory>
     requires { first + length body.now < 2 ^ 32 }
-    ensures { OnOk result (list.new ≡ list.old ++ sites_from block first (map items.OfInstr body.now)) }
+    ensures { OnOk result (list.new
+        ≡ list.old ++ sites_from block first (map items.OfInstr body.now)) }
 {
     for (at, instr) in body.iter().enumerate() {
         list.push(SiteRef {

@@ -70,7 +70,8 @@ pub fn list_values(alloc: Global, func: &Func) -> Result<Values, NoMemory>
 }
 
 fn push_params<'a>(list: &mut Values<'a>, params: &'a [Param]) -> Result<(), NoMemory>
-    ensures { OnOk result (list.new ≡ list.old ++ map (λ param. (param.name, param.width)) params.now) }
+    ensures { OnOk result (list.new
+        ≡ list.old ++ map (λ param. (param.name, param.width)) params.now) }
 {
     for param in params {
         list.push(param.name.bytes(), param.width)?;
@@ -95,7 +96,8 @@ fn push_phis<'a>(list: &mut Values<'a>, phis: &'a [Phi]) -> Result<(), NoMemory>
 }
 
 fn push_results<'a>(list: &mut Values<'a>, body: &'a [Instr]) -> Result<(), NoMemory>
-    ensures { OnOk result (list.new ≡ list.old ++ flat_map (λ instr. items.named instr.name (items.result_width instr.op)) body.now) }
+    ensures { OnOk result (list.new ≡ list.old
+        ++ flat_map (λ instr. items.named instr.name (items.result_width instr.op)) body.now) }
 {
     for instr in body {
         push_result(list, instr)?;
@@ -104,7 +106,8 @@ fn push_results<'a>(list: &mut Values<'a>, body: &'a [Instr]) -> Result<(), NoMe
 }
 
 fn push_result<'a>(list: &mut Values<'a>, instr: &'a Instr) -> Result<(), NoMemory>
-    ensures { OnOk result (list.new ≡ list.old ++ items.named instr.now.name (items.result_width instr.now.op)) }
+    ensures { OnOk result (list.new
+        ≡ list.old ++ items.named instr.now.name (items.result_width instr.now.op)) }
 {
     match result_width(&instr.op) {
         Some(width) => list.push(instr.name.bytes(), width),

@@ -16,7 +16,8 @@ use wx_base::{Name, NoMemory};
 /// The name that is written by a run or a string.
 fn written_name(alloc: Global, body: &[u8]) -> Result<Name, NoMemory>
     requires { (after name : List ℕ) × Writes body.now after name }
-    ensures { IfOk result (λ name. (after other : List ℕ) → Writes body.now after other → name ≡ other) }
+    ensures { IfOk result (λ name. (after other : List ℕ) → Writes body.now after other
+        → name ≡ other) }
 {
     if begins_with(body, b'"') {
         unescaped(alloc, without_last(without_first(body)))
@@ -43,7 +44,8 @@ pub fn name_of(alloc: Global, text: &[u8], token: &Token) -> Result<Name, NoMemo
     requires of_text { IsTokenOf text.now token.now }
     requires named { IsTrue (has_name token.now.kind) }
     ensures name { IfOk result (GivesName text.now token.now) }
-    ensures only { (name : List ℕ) → GivesName text.now token.now name → IfOk result (λ found. found ≡ name) }
+    ensures only { (name : List ℕ) → GivesName text.now token.now name
+        → IfOk result (λ found. found ≡ name) }
 {
     written_name(alloc, body_of(token.kind, token.bytes(text)))
 }
@@ -51,7 +53,8 @@ pub fn name_of(alloc: Global, text: &[u8], token: &Token) -> Result<Name, NoMemo
 /// The name of a text that is one local name and nothing else; `None` exactly where it isn't.
 pub fn local_name(alloc: Global, text: &[u8]) -> Result<Option<Name>, NoMemory>
     ensures found { IfOk result (λ found. IfSome found (IsLocalName text.now)) }
-    ensures only { (name : List ℕ) → IsLocalName text.now name → IfOk result (λ found. found ≡ Some name) }
+    ensures only { (name : List ℕ) → IsLocalName text.now name
+        → IfOk result (λ found. found ≡ Some name) }
 {
     if !begins_with(text, b'%') {
         return Ok(None);

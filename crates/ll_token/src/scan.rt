@@ -102,7 +102,8 @@ pub fn tokens(
 
 /// A text has either one list of tokens or one first fault.
 pub fn one_answer()
-    ensures some { (text : List ℕ) (first_line : ℕ) → ((tokens : List Token) × AreTokens text first_line tokens)
+    ensures some { (text : List ℕ) (first_line : ℕ)
+        → ((tokens : List Token) × AreTokens text first_line tokens)
         ⊎ ((fault : TokenFault) × IsFirstFault text first_line fault) }
     ensures tokens { (text : List ℕ) (first_line : ℕ) (one other : List Token)
         → AreTokens text first_line one → AreTokens text first_line other → one ≡ other }

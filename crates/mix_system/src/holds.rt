@@ -48,7 +48,8 @@ impl System {
     fn has_true_literal(&self, clause: &[Lit], point: &[i128]) -> Result<bool, Excess>
         requires numbers { length point.now ≡ length self.now.ranges }
         requires terms { All (λ lit. Exists (length self.now.ranges) (length self.now.rows) lit.term) clause.now }
-        ensures met { IfOk result (λ yes. IsTrue yes ↔ Any (IsTrueAt self.now.rows point.now) clause.now) }
+        ensures met { IfOk result
+            (λ yes. IsTrue yes ↔ Any (IsTrueAt self.now.rows point.now) clause.now) }
         ensures excess { IfErr result (IsRowExcess self.now point.now) }
     {
         for lit in clause {

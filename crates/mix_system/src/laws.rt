@@ -36,8 +36,8 @@ pub fn a_refuted_box_has_no_point()
 
 /// Where the bounds of the box and the known clauses are true, a clause that follows from them is.
 pub fn what_follows_is_true()
-    ensures { (rows : List (List Part)) (point : List ℤ) (clause : List Lit) (hints : List ℕ) (box : List Lit)
-        (known : Known) → Follows clause hints box known → AreTrueAt rows point box
+    ensures { (rows : List (List Part)) (point : List ℤ) (clause : List Lit) (hints : List ℕ)
+        (box : List Lit) (known : Known) → Follows clause hints box known → AreTrueAt rows point box
         → ((at : ℕ) (given : List Lit) → known at ≡ Some given → Any (IsTrueAt rows point) given)
         → Any (IsTrueAt rows point) clause }
 {}

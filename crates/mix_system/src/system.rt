@@ -52,7 +52,8 @@ impl System {
         requires range { IsRange (low, high) }
         requires room { length self.old.ranges + 1 < 2 ^ 31 }
         ensures number { IfOk result (λ var. var ≡ length self.old.ranges) }
-        ensures ok { OnOk result (self.new ≡ record self.old { ranges = self.old.ranges ++ (low, high) ∷ [] }) }
+        ensures ok { OnOk result
+            (self.new ≡ record self.old { ranges = self.old.ranges ++ (low, high) ∷ [] }) }
         ensures err { OnErr result (self.new ≡ self.old) }
     {
         let number = self.ranges.len() as u32;
@@ -68,7 +69,8 @@ impl System {
         requires row { IsRow (length self.old.ranges) parts.now }
         requires room { length self.old.rows + 1 < 2 ^ 31 }
         ensures number { IfOk result (λ row. row ≡ length self.old.rows) }
-        ensures ok { OnOk result (self.new ≡ record self.old { rows = self.old.rows ++ parts.now ∷ [] }) }
+        ensures ok { OnOk result
+            (self.new ≡ record self.old { rows = self.old.rows ++ parts.now ∷ [] }) }
         ensures err { OnErr result (self.new ≡ self.old) }
     {
         let number = self.rows.len() as u32;
@@ -85,7 +87,8 @@ impl System {
         requires clause { IsClause (length self.old.ranges) (length self.old.rows) lits.now }
         requires room { length self.old.clauses + 1 < 2 ^ 31 }
         ensures number { IfOk result (λ clause. clause ≡ length self.old.clauses) }
-        ensures ok { OnOk result (self.new ≡ record self.old { clauses = self.old.clauses ++ lits.now ∷ [] }) }
+        ensures ok { OnOk result
+            (self.new ≡ record self.old { clauses = self.old.clauses ++ lits.now ∷ [] }) }
         ensures err { OnErr result (self.new ≡ self.old) }
     {
         let number = self.clauses.len() as u32;

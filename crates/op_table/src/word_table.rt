@@ -20,7 +20,8 @@ impl<const N: usize> WordTable<N> {
 
         // Where no two rows share a word, this undoes `word`.
         ensures inverse { IsTrue (are_distinct (rows_of self.now.words.now))
-            → (at : ℕ) → slice_get (rows_of self.now.words.now) at ≡ Some word.now → result ≡ Some at }
+            → (at : ℕ) → slice_get (rows_of self.now.words.now) at ≡ Some word.now
+            → result ≡ Some at }
     {
         place_of(self.words, word)
     }

@@ -48,5 +48,6 @@ pub fn a_way_with_values_that_leads_on_is_a_walk()
     ensures { (func : Func) (args : List ℕ) (blocks : List Block) (vals : Vals) → Rules func
         → AreArguments (widths_of func) args → IsWay func blocks
         → AreTheValues func args blocks vals → LeadOn func args vals blocks
-        → (walk : Walk func args (map (λ block. block.label) blocks) vals) × (walk.blocks ≡ blocks) }
+        → (walk : Walk func args (map (λ block. block.label) blocks) vals)
+        × (walk.blocks ≡ blocks) }
 {}

@@ -27,8 +27,8 @@ pub fn pieces_tell_the_values_along_a_path()
 /// The pieces of a function can be filled in one behind the other, at each point that has the arguments, the
 /// constants and a path: what a piece asks of is a parameter, or is given by a piece before it.
 pub fn pieces_can_be_filled_in_their_order()
-    ensures { (it : SoundFunc) (spots : PathSpots) (placed : List Placed) (path : List ℕ) → IsSound it
-        → AreSpotsOf it spots → ArePiecesOf it spots placed
+    ensures { (it : SoundFunc) (spots : PathSpots) (placed : List Placed) (path : List ℕ)
+        → IsSound it → AreSpotsOf it spots → ArePiecesOf it spots placed
         → AreReady (IsReady it spots path) placed }
 {}
 

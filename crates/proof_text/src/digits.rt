@@ -39,7 +39,8 @@ pub(crate) fn is_positive(bytes: &[u8]) -> bool
 // The number with one digit more, where it is below 2^128.
 fn with_digit(value: u128, digit: u8) -> Option<u128>
     requires { IsTrue (is_digit digit) }
-    ensures { result ≡ (if nat_lt (10 * value + (digit - 48)) (2 ^ 128) then Some (10 * value + (digit - 48)) else None) }
+    ensures { result ≡ (if nat_lt (10 * value + (digit - 48)) (2 ^ 128)
+        then Some (10 * value + (digit - 48)) else None) }
 {
     value.checked_mul(10)?.checked_add(u128::from(digit - b'0'))
 }
@@ -47,7 +48,8 @@ fn with_digit(value: u128, digit: u8) -> Option<u128>
 // The value of digits, where it is below 2^128.
 pub(crate) fn value_of(digits: &[u8]) -> Option<u128>
     requires { AllPass is_digit digits.now }
-    ensures { result ≡ (if nat_lt (digits_value 10 digits.now) (2 ^ 128) then Some (digits_value 10 digits.now) else None) }
+    ensures { result ≡ (if nat_lt (digits_value 10 digits.now) (2 ^ 128)
+        then Some (digits_value 10 digits.now) else None) }
 {
     let mut value = 0;
     for digit in digits {

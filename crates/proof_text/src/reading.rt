@@ -48,7 +48,8 @@ impl<T: Drop> Gathered<T> {
     // Takes one item more, and answers false where it is malformed.
     pub(crate) fn put(&mut self, item: Reading<T>) -> Result<bool, NoMemory>
         ensures { IfOk result (λ goes. MatchBool goes
-            (gathered self.new.fits self.new.items ≡ joined (gathered self.old.fits self.old.items) (single item))
+            (gathered self.new.fits self.new.items
+            ≡ joined (gathered self.old.fits self.old.items) (single item))
             (item ≡ give.Malformed)) }
     {
         match item {

@@ -22,7 +22,8 @@ pub(crate) fn first_word(bytes: &[u8]) -> (&[u8], &[u8])
 // The word behind a space, and what follows it.
 pub(crate) fn next_word(rest: &[u8]) -> Option<(&[u8], &[u8])>
     ensures { MatchOption result (words_after rest.now ≡ [])
-        (λ next. (words_after rest.now ≡ next.0.now ∷ words_after next.1.now) × (length next.1.now < length rest.now)) }
+        (λ next. (words_after rest.now ≡ next.0.now ∷ words_after next.1.now)
+        × (length next.1.now < length rest.now)) }
 {
     match rest {
         [] => None,
@@ -43,7 +44,8 @@ pub(crate) fn only_word(rest: &[u8]) -> Option<&[u8]>
 
 // The two words that are left.
 pub(crate) fn two_words(rest: &[u8]) -> Option<(&[u8], &[u8])>
-    ensures { option_map (λ words. (words.0.now, words.1.now)) result ≡ two_words (words_after rest.now) }
+    ensures { option_map (λ words. (words.0.now, words.1.now)) result
+        ≡ two_words (words_after rest.now) }
 {
     let (first, rest) = next_word(rest)?;
     let second = only_word(rest)?;

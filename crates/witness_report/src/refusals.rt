@@ -159,7 +159,8 @@ fn limit_word(what: Limit) -> &'static [u8]
 fn push_no_such_name(text: &mut Vec<u8>, name: &Name, at: &Spot) -> Result<(), NoMemory>
     ensures { OnOk result (text.new.items
         ≡ text.old.items
-        ++ line (codes "refused verify no-such-name" ++ (spaced_name name.now ++ spaced_spot at.now))) }
+        ++ line (codes "refused verify no-such-name"
+        ++ (spaced_name name.now ++ spaced_spot at.now))) }
 {
     push(text, b"refused verify no-such-name")?;
     push_spaced_name(text, name)?;

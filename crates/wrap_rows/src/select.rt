@@ -185,7 +185,8 @@ impl Select {
     // The number of the arm that the condition's number names.
     fn chosen_number(&self, point: &[i128]) -> i128
         requires at { IsAt self.now (length point.now) }
-        ensures { result ≡ (if is_first self.now point.now then number_at point.now self.now.yes.number
+        ensures { result ≡ (if is_first self.now point.now
+            then number_at point.now self.now.yes.number
             else (number_at point.now self.now.no.number)) }
     {
         if point[self.cond.number as usize] == 1 {

@@ -11,7 +11,8 @@ impl Num {
     pub fn add(x: i128, y: i128) -> Result<i128, Excess>
         ensures value { IfOk result (λ sum. sum ≡ x +ℤ y) }
         ensures within { IsOk result ↔ FitsSigned w128 (x +ℤ y) }
-        ensures excess { IfErr result (λ excess. excess ≡ record { op = NumOp.Plus; x = x; y = y }) }
+        ensures excess { IfErr result
+            (λ excess. excess ≡ record { op = NumOp.Plus; x = x; y = y }) }
     {
         x.checked_add(y).ok_or(Excess {
             op: NumOp::Plus,
@@ -24,7 +25,8 @@ impl Num {
     pub fn sub(x: i128, y: i128) -> Result<i128, Excess>
         ensures value { IfOk result (λ difference. difference ≡ x -ℤ y) }
         ensures within { IsOk result ↔ FitsSigned w128 (x -ℤ y) }
-        ensures excess { IfErr result (λ excess. excess ≡ record { op = NumOp.Minus; x = x; y = y }) }
+        ensures excess { IfErr result
+            (λ excess. excess ≡ record { op = NumOp.Minus; x = x; y = y }) }
     {
         x.checked_sub(y).ok_or(Excess {
             op: NumOp::Minus,
@@ -37,7 +39,8 @@ impl Num {
     pub fn mul(x: i128, y: i128) -> Result<i128, Excess>
         ensures value { IfOk result (λ product. product ≡ x *ℤ y) }
         ensures within { IsOk result ↔ FitsSigned w128 (x *ℤ y) }
-        ensures excess { IfErr result (λ excess. excess ≡ record { op = NumOp.Times; x = x; y = y }) }
+        ensures excess { IfErr result
+            (λ excess. excess ≡ record { op = NumOp.Times; x = x; y = y }) }
     {
         if let (Ok(x), Ok(y)) = (i64::try_from(x), i64::try_from(y)) {
             return Ok(x as i128 * y as i128);
