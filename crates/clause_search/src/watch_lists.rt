@@ -1,4 +1,4 @@
-ghost use Rattle.std.specs.Prelude.{◌≡◌, ◌≢◌, ℕ, ◌<◌, [], ◌∷◌, ◌++◌, length, slice_set, slice_index_or, IfOk, OnOk, OnErr};
+ghost use Rattle.std.specs.Prelude.{◌≡◌, ◌≢◌, ℕ, ◌<◌, [], ◌∷◌, ◌++◌, length, slice_set, slice_index_or, All, IfOk, OnOk, OnErr};
 ghost use Rattle.clause_search.specs.Watched.{list_at, watcher_of};
 ghost use Rattle.clause_search.specs.Visited.{Takes, Replaces, watched_lit};
 
@@ -61,7 +61,8 @@ impl Model for WatchLists {
 impl WatchLists {
     /// So many empty lists.
     pub fn new(alloc: Global, places: usize) -> Result<WatchLists, NoMemory>
-        ensures { IfOk result (λ lists. length lists ≡ places) }
+        ensures places { IfOk result (λ lists. length lists ≡ places) }
+        ensures empty { IfOk result (All (λ list. list ≡ [])) }
     {
         let mut lists = Vec::new(alloc);
         for _ in 0..places {
@@ -120,10 +121,11 @@ impl WatchLists {
 
     /// Empties all lists.
     pub fn clear(&mut self)
-        ensures { length self.new ≡ length self.old }
+        ensures places { length self.new ≡ length self.old }
+        ensures empty { All (λ list. list ≡ []) self.new }
     {
-        for at in 0..self.lists.len() {
-            self.lists[at].clear();
+        for list in self.lists.iter_mut() {
+            list.clear();
         }
     }
 }
