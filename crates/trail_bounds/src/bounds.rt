@@ -52,7 +52,9 @@ impl<'a> TrailBounds<'a> {
     pub fn give_back(&mut self, count: u32)
         requires counted { IsCounted self.old }
         requires ground { self.old.ground ≤ count }
-        ensures { (lits : List Literal) → AreBoundsOf self.old.system.now lits self.old
+        ensures system { self.new.system ≡ self.old.system }
+        ensures ground { self.new.ground ≡ self.old.ground }
+        ensures bounds { (lits : List Literal) → AreBoundsOf self.old.system.now lits self.old
             → count ≤ length lits → AreBoundsOf self.old.system.now (take count lits) self.new }
     {
         let kept = count - self.ground;

@@ -3,13 +3,13 @@ use Rattle.bounded_simplex.specs.InForce.{BoundChanges}
 use Rattle.trail_bounds.proofs.BoundsLaws.{bounds_kept, bounds_back}
 use Rattle.trail_bounds.proofs.bounds.TrailBounds.give_back.Goals as goal
 
-pub returns-then-kept-self : goal.returns-then-kept-self
-returns-then-kept-self c = λ lits are short.
+pub returns-then-kept-self-clause-bounds : goal.returns-then-kept-self-clause-bounds
+returns-then-kept-self-clause-bounds c = λ lits are short.
     let it = c.args.self.now in
     bounds_kept it.system.now lits it are c.args.count (c.args.count - it.ground) short (omega (arith, c.requires.ground)) (omega (arith, c.if-kept-self.true))
 
-pub returns : goal.returns
-returns c = λ lits are short.
+pub returns-clause-bounds : goal.returns-clause-bounds
+returns-clause-bounds c = λ lits are short.
     let it = c.args.self.now in
     let kept = c.args.count - it.ground in
     let left : c.mark.result.changes - (it.put - kept) ≡ it.base + kept = omega (arith, c.mark.ensures, c.requires.counted, c.if-kept-self.false) in
