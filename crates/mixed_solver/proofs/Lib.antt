@@ -1,0 +1,10 @@
+pub mod ChoiceLaws
+pub mod ForceLaws
+pub mod FreshLaws
+pub mod GroundLaws
+pub mod MixedLaws
+pub mod PointLaws
+pub mod RefutedLaws
+pub mod StoredLaws
+pub mod TrailLaws
+pub mod TurnLaws
