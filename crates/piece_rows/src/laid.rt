@@ -51,8 +51,8 @@ fn lay_into(alloc: Global, piece: &IrPiece, into: &mut System) -> Result<(), NoM
     piece.lay(alloc, first, into)
 }
 
-// The variables 0 and 1, and three operands of 8 bits.
-fn base(alloc: Global) -> Result<System, NoMemory>
+/// The variables 0 and 1, and three operands of 8 bits.
+pub fn base(alloc: Global) -> Result<System, NoMemory>
     ensures vars { IfOk result (λ system. length system.ranges ≡ 8) }
     ensures rows { IfOk result (λ system. system.rows ≡ []) }
     ensures clauses { IfOk result (λ system. system.clauses ≡ []) }

@@ -5,6 +5,7 @@
 mod choice;
 mod laid;
 mod made;
+mod normal;
 mod shown;
 mod words;
 
@@ -17,6 +18,7 @@ fn answer(alloc: Global, of: &str, call: &str) -> Result<String, NoMemory> {
     match of {
         "piece" => choice::piece_row(alloc, call),
         "lay" => laid::lay_row(alloc, call),
+        "normal" => normal::normal_row(alloc),
         _ => shown::said(alloc, "no row"),
     }
 }
