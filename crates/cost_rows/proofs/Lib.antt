@@ -1,2 +1,3 @@
+pub mod FewLaws
 mod PartLaws
 pub mod SpendLaws

@@ -30,8 +30,7 @@ pub fn push_blocks(
     ensures known { (count : ℕ) → All (λ var. var < count) vars.now
         → All (λ part. part.var < count) parts.old.items
         → OnOk result (All (λ part. part.var < count) parts.new.items) }
-    ensures small { OnOk result
-        (sizes parts.new.items ≤ sizes parts.old.items + length vars.now * 2 ^ 32) }
+    ensures small { OnOk result (sizes parts.new.items ≤ sizes parts.old.items + 2 ^ 40) }
 {
     for at in 0..sound.order().len() {
         let cost = block_cost(sound, costs, flags, Position(at as u32));
@@ -57,8 +56,7 @@ pub fn push_edges(
     ensures known { (count : ℕ) → All (λ var. var < count) vars.now
         → All (λ part. part.var < count) parts.old.items
         → OnOk result (All (λ part. part.var < count) parts.new.items) }
-    ensures small { OnOk result
-        (sizes parts.new.items ≤ sizes parts.old.items + length vars.now * 2 ^ 32) }
+    ensures small { OnOk result (sizes parts.new.items ≤ sizes parts.old.items + 2 ^ 48) }
 {
     let edges = sound.edges();
     for (k, var) in vars.iter().enumerate() {

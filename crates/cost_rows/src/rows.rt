@@ -1,5 +1,6 @@
 ghost use Rattle.std.specs.Prelude.{◌≡◌, ◌+◌, ◌^◌, ◌<◌, ◌++◌, ◌∷◌, [], ℕ, Bool, true, length, All, IfOk, OnOk, OnErr};
 ghost use Rattle.wrap_rows.specs.Normal.{row_of};
+ghost use Rattle.wrap_rows.specs.Small.{IsCompact};
 ghost use Rattle.sound_costs.specs.Costs.{AreCostsOf};
 ghost use Rattle.portion_cuts.specs.Paths.{is_in, is_within};
 ghost use Rattle.cost_rows.specs.Rows.{row_parts, AreVarsOf, AreFlags};
@@ -17,7 +18,7 @@ use wx_base::NoMemory;
 
 /// Adds the row of all blocks, which is what a path costs, and gives its number.
 ///
-/// Where memory is wanting the system stands as before.
+/// A compact system stays compact. Where memory is wanting the system stands as before.
 pub fn add_cost_row(
     alloc: Global,
     sound: &Sound,
@@ -33,6 +34,7 @@ pub fn add_cost_row(
       rows = into.old.rows
           ++ row_of (row_parts sound.now costs.now (λ at. true) vars.entry) ∷ [];
     }) }
+    ensures compact { IsCompact into.old → OnOk result (IsCompact into.new) }
     ensures err { OnErr result (into.new ≡ into.old) }
 {
     let flags = all_flags(alloc, vars.blocks.len())?;
@@ -41,7 +43,7 @@ pub fn add_cost_row(
 
 /// Adds the row of a portion, which is what a path spends in it, and gives its number.
 ///
-/// Where memory is wanting the system stands as before.
+/// A compact system stays compact. Where memory is wanting the system stands as before.
 pub fn add_portion_row(
     alloc: Global,
     sound: &Sound,
@@ -58,6 +60,7 @@ pub fn add_portion_row(
       rows = into.old.rows
           ++ row_of (row_parts sound.now costs.now (is_in portion) vars.entry) ∷ [];
     }) }
+    ensures compact { IsCompact into.old → OnOk result (IsCompact into.new) }
     ensures err { OnErr result (into.new ≡ into.old) }
 {
     let flags = portion_flags(alloc, vars.blocks.len(), portion)?;
@@ -66,7 +69,7 @@ pub fn add_portion_row(
 
 /// Adds the row of a region, which is what a path spends in it, and gives its number.
 ///
-/// Where memory is wanting the system stands as before.
+/// A compact system stays compact. Where memory is wanting the system stands as before.
 pub fn add_region_row(
     alloc: Global,
     sound: &Sound,
@@ -84,6 +87,7 @@ pub fn add_region_row(
       rows = into.old.rows
           ++ row_of (row_parts sound.now costs.now (is_within region.now) vars.entry) ∷ [];
     }) }
+    ensures compact { IsCompact into.old → OnOk result (IsCompact into.new) }
     ensures err { OnErr result (into.new ≡ into.old) }
 {
     let flags = region_flags(alloc, vars.blocks.len(), region.blocks.as_slice())?;
@@ -109,6 +113,7 @@ fn add_row(
           rows = into.old.rows
               ++ row_of (row_parts sound.now costs.now inside vars.entry) ∷ [];
         }) }
+    ensures compact { IsCompact into.old → OnOk result (IsCompact into.new) }
     ensures err { OnErr result (into.new ≡ into.old) }
 {
     let mut parts = Vec::new(alloc);

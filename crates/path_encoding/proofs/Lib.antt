@@ -1,20 +1,20 @@
 mod CaseDiffer
-mod CountLaws
+pub mod CountLaws
 mod FillLaws
 mod FlowLaws
 pub mod GraphLaws
 mod HoldLaws
 mod KnownLaws
 mod LaidLaws
-mod LayingLaws
+pub mod LayingLaws
 mod LeadLaws
 mod LitLaws
-mod LittleLaws
+pub mod LittleLaws
 pub mod MarkSums
 pub mod MemberLaws
 mod NumberLaws
 mod OnePathLaws
-mod OrderSums
+pub mod OrderSums
 mod PairLaws
 pub mod PathMarks
 mod PutCaseLaws

@@ -1,6 +1,7 @@
 ghost use Rattle.std.specs.Prelude.{◌≡◌, ◌+◌, ◌*◌, ◌^◌, ◌<◌, ◌≤◌, ◌++◌, map, flat_map, zip, length, true, All, OnOk};
 ghost use Rattle.wrap_rows.specs.Normal.{clause_of};
 ghost use Rattle.wrap_rows.specs.Piece.{Lays, names_own_rows};
+ghost use Rattle.wrap_rows.specs.Small.{IsCompact};
 ghost use Rattle.path_encoding.specs.Spots.{AreSpotsOf, Exist};
 ghost use Rattle.path_encoding.specs.PathLayout.{strict_clauses, start_clauses, visit_clauses, path_layout};
 
@@ -17,7 +18,8 @@ use wrap_rows::{ValueVars, add_lits};
 use wx_base::NoMemory;
 
 /// Adds the rows of flow and the clauses of the function's paths. The spots are the function's, and
-/// their variables exist. The clauses name no other rows.
+/// their variables exist. The clauses name no other rows, and their numbers are small: a compact
+/// system stays compact.
 ///
 /// After want of memory some of them may stand.
 pub fn lay(
@@ -33,6 +35,7 @@ pub fn lay(
         + length (path_layout sound.now spots.now).clauses < 2 ^ 31 }
     ensures ok { OnOk result (Lays (path_layout sound.now spots.now) into.old into.new) }
     ensures own_rows { names_own_rows (path_layout sound.now spots.now) ≡ true }
+    ensures compact { IsCompact into.old → OnOk result (IsCompact into.new) }
 {
     let first = into.rows();
     let blocks = sound.order().len() as u32;

@@ -1,9 +1,9 @@
 mod AgreeLaws
 mod EdgeLaws
 pub mod FilledLaws
-mod NameLaws
+pub mod NameLaws
 mod OperandLaws
-mod OrderLaws
+pub mod OrderLaws
 pub mod OwnerLaws
 mod PhiLaws
 mod RangeLaws

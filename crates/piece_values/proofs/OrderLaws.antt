@@ -63,7 +63,7 @@ module _ (it : SoundFunc) (sound : IsSound it) where
     pub least : from ≤ to
     pub before : (block : Block) → Contains done block → IsBefore to block
 
-  one_position : (from to : ℕ) → from < count → to < count → label_at it from ≡ label_at it to → from ≡ to
+  pub one_position : (from to : ℕ) → from < count → to < count → label_at it from ≡ label_at it to → from ≡ to
   one_position from to from_low to_low same = positions_same from to from_low to_low (labels_same same)
     where
       labels_same : label_at it from ≡ label_at it to → place_at it from ≡ place_at it to

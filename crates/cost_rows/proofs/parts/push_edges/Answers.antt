@@ -7,6 +7,7 @@ use Rattle.wrap_rows.specs.Normal.{sizes}
 use Rattle.portion_cuts.specs.Paths.{costs_at}
 use Rattle.portion_cuts.proofs.BestLaws.{edge_at, no_edge, can_relax, edge_of_list}
 use Rattle.cost_rows.specs.Rows.{edge_row}
+use Rattle.cost_rows.proofs.FewLaws.{few_edges}
 use Rattle.cost_rows.proofs.PartLaws.{AreKnown, known_more, sizes_more, next_edge}
 use Rattle.cost_rows.proofs.parts.push_edges.Goals as goal
 
@@ -41,3 +42,6 @@ loop-k-preserved c =
       known = λ count within known. subst (AreKnown count) (sym pushed) (known_more count items (times (pos c.edge_cost-cost.result) (get_or vars k 0)) (c.loop-k.invariant.known count within known) (within k 0 low));
       small = omega (arith, ap sizes pushed, sizes_more items (times (pos c.edge_cost-cost.result) (get_or vars k 0)), c.loop-k.invariant.small);
     }
+
+pub returns-clause-small : goal.returns-clause-small
+returns-clause-small c = omega (arith, c.loop-k.invariant.small, c.loop-k.auto.k-end, c.requires.size, few_edges c.args.sound.now c.edges-edges.ensures.sound)

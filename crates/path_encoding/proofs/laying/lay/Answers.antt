@@ -1,12 +1,14 @@
-use Rattle.std.proofs.Common.{◌≡◌, ◌-◌, ◌++◌, ℕ, length, map, ap, subst, arith}
+use Rattle.std.proofs.Common.{◌≡◌, ◌-◌, ◌++◌, ℕ, length, map, ap, subst, arith, rules}
 use Rattle.std.proofs.lemmas.List.{length-map, length-append}
 use Rattle.mix_system.specs.System.{System}
 use Rattle.wrap_rows.specs.Layout.{clause_from}
 use Rattle.wrap_rows.specs.Normal.{row_of, clause_of}
+use Rattle.wrap_rows.proofs.CompactLaws.{compact-laid}
 use Rattle.path_encoding.specs.FlowRows.{in_rows, flow_rows}
-use Rattle.path_encoding.specs.PathLayout.{start_clauses, flow_clauses, visit_clauses}
+use Rattle.path_encoding.specs.PathLayout.{start_clauses, flow_clauses, visit_clauses, path_layout}
 use Rattle.path_encoding.proofs.FlowLaws.{in_count}
 use Rattle.path_encoding.proofs.KnownLaws.{own_rows}
+use Rattle.path_encoding.proofs.LittleLaws.{layout_small}
 use Rattle.path_encoding.proofs.WholeLaws.{same_rows, layout_stages}
 use Rattle.path_encoding.proofs.laying.lay.Goals as goal
 
@@ -92,3 +94,13 @@ returns-clause-ok c =
     let three = c.add_start.new.into in
     let fourth = subst (λ (n : ℕ). c.add_flow_clauses.new.into ≡ record three { clauses = three.clauses ++ map (clause_from n) (flow_clauses (length three.rows - n)) }) c.rows-first.ensures.count c.in_ok-add_flow_clauses.ensures in
     layout_stages c.args.sound.now c.args.spots.now c.args.into.now c.add_in_rows.new.into c.add_out_rows.new.into three c.add_flow_clauses.new.into c.add_visits.new.into c.in_ok-add_in_rows.ensures c.in_ok-add_out_rows.ensures c.in_ok-add_start.ensures fourth c.in_ok-add_visits.ensures
+
+pub returns-clause-compact : goal.returns-clause-compact
+returns-clause-compact c = λ compact.
+    let it = c.args.sound.now in
+    let spots = c.args.spots.now in
+    let old = c.args.into.now in
+    let three = c.add_start.new.into in
+    let fourth = subst (λ (n : ℕ). c.add_flow_clauses.new.into ≡ record three { clauses = three.clauses ++ map (clause_from n) (flow_clauses (length three.rows - n)) }) c.rows-first.ensures.count c.in_ok-add_flow_clauses.ensures in
+    let lays = layout_stages it spots old c.add_in_rows.new.into c.add_out_rows.new.into three c.add_flow_clauses.new.into c.add_visits.new.into c.in_ok-add_in_rows.ensures c.in_ok-add_out_rows.ensures c.in_ok-add_start.ensures fourth c.in_ok-add_visits.ensures in
+    compact-laid (path_layout it spots) old c.add_visits.new.into compact (layout_small it (search rules) spots) lays
