@@ -1,0 +1,4 @@
+pub mod Params
+pub mod Pieces
+pub mod Drafts
+pub mod Values

@@ -1,0 +1,4 @@
+pub mod FitLaws
+pub mod InLaws
+pub mod PartLaws
+pub mod RunLaws
